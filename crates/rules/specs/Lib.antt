@@ -1,0 +1,13 @@
+pub mod Lists
+pub mod Answers
+pub mod Tables
+pub mod Statements
+pub mod Bound
+pub mod Names
+pub mod Trimmed
+pub mod Numbers
+pub mod Lookup
+pub mod Marking
+pub mod Obeys
+pub mod Fits
+pub mod Analyze
