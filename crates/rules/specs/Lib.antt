@@ -11,3 +11,8 @@ pub mod Marking
 pub mod Obeys
 pub mod Fits
 pub mod Analyze
+pub mod Rows
+pub mod Evaluate
+pub mod Limits
+pub mod Heard
+pub mod Theorems
