@@ -15,4 +15,5 @@ pub mod Rows
 pub mod Evaluate
 pub mod Limits
 pub mod Heard
+pub mod Demand
 pub mod Theorems

@@ -1,9 +1,10 @@
--- The marking rules as a relation: a marking obeys them at every node. Nothing here says in which order nodes are looked at, and nothing
--- is refused: what has no rule has no marking.
+-- The rules as a relation: a marking obeys them at every node, a value fits its column, an UPDATE obeys. Nothing here says in which order
+-- things are looked at, and nothing is refused: what has no rule has no marking.
 -- Assumes nothing: these are definitions.
 use mathlib.Core.Path.{_≡_}
 use mathlib.Core.Bool.{Bool, true, false, _||_}
 use mathlib.Core.Logic.{_⊎_}
+use mathlib.Core.List.{List, [], _∷_}
 use mathlib.Core.Option.{Option, some, none}
 use lib.IntN.{ℤ}
 use Rattle.tree.specs.Tree.{Tree, leaf, un, bin}
@@ -13,13 +14,13 @@ use Rattle.rules.specs.declared.Mark.{Mark}
 use Rattle.rules.specs.declared.BoundUnaryOperator.the-variants.{Positive, Negative, Not}
 use Rattle.rules.specs.declared.BoundBinaryOperator.{BoundBinaryOperator}
 use Rattle.rules.specs.declared.BoundBinaryOperator.the-variants as op
-use Rattle.rules.specs.Lists.{Text}
-use Rattle.rules.specs.Tables.{TableSchema}
-use Rattle.rules.specs.Statements.{Leaf, Unary, parentheses, nullTest, unary, otherUnary, Binary, binary, otherBinary, Expr}
+use Rattle.rules.specs.Lists.{Text, distinct}
+use Rattle.rules.specs.Tables.{TableSchema, sameId}
+use Rattle.rules.specs.Statements.{Name, plain, Leaf, Unary, parentheses, nullTest, unary, otherUnary, Binary, binary, otherBinary, Expr, target, Assignment}
 use Rattle.rules.specs.Bound.{BoundColumnRef}
 use Rattle.rules.specs.Names.{canonical}
 use Rattle.rules.specs.Numbers.{integerLiteral}
-use Rattle.rules.specs.Lookup.{columnByName, columnMark, mark}
+use Rattle.rules.specs.Lookup.{columnByName, columnMark, inKey, expressionType, mark}
 use Rattle.rules.specs.Marking.{Marking, rootMark, signedNumber}
 
 -- a number text, under a minus or not, is in range, and the mark is that of a literal
@@ -89,3 +90,38 @@ pub data Obeys (t : TableSchema) : Expr → Marking → Type 0 where
       → Obeys t (un o a) (un m w)
   at-binary : {o : Binary} {a b : Expr} {m : Mark} {w z : Marking} → Obeys t a w → Obeys t b z → BinaryObeys o (rootMark w) (rootMark z) m
       → Obeys t (bin o a b) (bin m w z)
+
+-- ---- a value given to a column: "each given a fitting value, none that may be null where the column forbids it"
+
+pub record FitObeys (m : Mark) (c : BoundColumnRef) : Type 0 where
+  pub fitting : (m .ty ≡ type.Null) ⊎ (m .ty ≡ expressionType (c .ty))
+  pub nullAllowed : m .nullable ≡ true → c .nullable ≡ true
+
+-- ---- an UPDATE
+
+-- the target is a plain column outside the key, and its value fits it
+pub record AssignmentObeys (t : TableSchema) (a : Assignment) (c : BoundColumnRef) : Type 0 where
+  pub name : Name
+  pub isPlain : a .target ≡ target (plain name)
+  pub isColumn : columnByName t (canonical name) ≡ some c
+  pub outsideKey : inKey t (c .columnId) ≡ false
+  pub marking : Marking
+  pub valueObeys : Obeys t (a .value) marking
+  pub fits : FitObeys (rootMark marking) c
+
+pub data AssignmentsObey (t : TableSchema) : List Assignment → List BoundColumnRef → Type 0 where
+  no-more : AssignmentsObey t [] []
+  and-then : {a : Assignment} {c : BoundColumnRef} {rest : List Assignment} {cs : List BoundColumnRef}
+      → AssignmentObeys t a c → AssignmentsObey t rest cs → AssignmentsObey t (a ∷ rest) (c ∷ cs)
+
+abbrev pub sameColumn : BoundColumnRef → BoundColumnRef → Bool
+sameColumn a b = sameId (a .columnId) (b .columnId)
+
+-- some marking of its expressions meets the rule at every node, the WHERE is BOOL, and the targets are distinct
+pub record UpdateObeys (t : TableSchema) (assignments : List Assignment) (condition : Expr) : Type 0 where
+  pub targets : List BoundColumnRef
+  pub assignmentsObey : AssignmentsObey t assignments targets
+  pub distinctTargets : distinct sameColumn targets ≡ true
+  pub marking : Marking
+  pub conditionObeys : Obeys t condition marking
+  pub isBool : rootMark marking .ty ≡ type.Bool
