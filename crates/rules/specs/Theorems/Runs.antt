@@ -71,14 +71,18 @@ name s = leaf (Leaf.name (unquoted s))
 abbrev pub number : String → Expr
 number s = leaf (Leaf.number (ascii s))
 
+abbrev pub string : String → Expr
+string s = leaf (Leaf.string (ascii s))
+
 abbrev pub literalNull : Expr
 literalNull = leaf Leaf.null
 
 abbrev pub literalTrue : Expr
 literalTrue = leaf (Leaf.boolean true)
 
+infixl 40 _⟨_⟩_
 abbrev pub _⟨_⟩_ : Expr → BoundBinaryOperator → Expr → Expr
-_⟨_⟩_ a o b = bin (binary o) a b
+a ⟨ o ⟩ b = bin (binary o) a b
 
 -- `UPDATE runs SET column = value WHERE condition`; the raw text is not that of SHOW TRANSACTIONS
 abbrev pub setting : String → Expr → Expr → Statement
@@ -127,33 +131,39 @@ pub record Case : Type 0 where
   pub asked : Asked
   pub answered : Answered
 
+infix 30 _gives_
 abbrev pub _gives_ : Asked → Answered → Case
-_gives_ q a = record { asked = q; answered = a }
+q gives a = record { asked = q; answered = a }
+
+abbrev pub binding : String → Expr → Expr → Asked
+binding c v w = bind (setting c v w)
+
+abbrev pub leastInt : Value
+leastInt = int (negsuc (2 ^ 63 - 1))
+
+abbrev pub minus : Expr → Expr
+minus e = un (unary Negative) e
 
 -- the rows of the table; the last two ask twice
 abbrev pub cases : List (List Case)
 cases =
-    (_gives_ (bind (setting "minutes" (_⟨_⟩_ (name "minutes") op.Add (number "1")) (name "ok"))) binds ∷ [])
-    ∷ (_gives_ (bind (setting "minutes" (_⟨_⟩_ (name "temp") op.Add (number "1")) (name "ok"))) (is 2) ∷ [])
-    ∷ (_gives_ (bind (setting "temp" literalNull (un (nullTest true) (name "temp")))) binds ∷ [])
-    ∷ (_gives_ (bind (setting "minutes" literalNull (name "ok"))) (is 2) ∷ [])
-    ∷ (_gives_ (bind (setting "temp" (leaf (Leaf.string (ascii "a"))) (name "ok"))) (is 1) ∷ [])
-    ∷ (_gives_ (bind (setting "temp" (number "1") (_⟨_⟩_ (name "temp") op.Equal literalNull))) (is 3) ∷ [])
-    ∷ (_gives_ (bind (setting "temp" (number "1") literalNull)) (is 1) ∷ [])
-    ∷ (_gives_ (bind (setting "temp" (number "1") (_⟨_⟩_ (name "ok") op.LessThan literalTrue))) (is 1) ∷ [])
-    ∷ (_gives_ (bind (setting "temp" (number "1") (_⟨_⟩_ literalNull op.Equal (name "nosuch")))) (is 1) ∷ [])
-    ∷ (_gives_ (bind (setting "temp" (un (unary Negative) (number "9223372036854775808")) (name "ok"))) binds ∷ [])
-    ∷ (_gives_ (bind (setting "temp" (un (unary Negative) (un parentheses (number "9223372036854775808"))) (name "ok"))) (is 1) ∷ [])
-    ∷ (_gives_ (bind (setting "serial" (leaf (Leaf.string (ascii "x"))) (name "ok"))) (is 2) ∷ [])
-    ∷ (_gives_ (run (setting "temp" (_⟨_⟩_ (name "temp") op.Modulo (number "0")) (name "ok")) null) (temp null)
-    ∷ _gives_ (run (setting "temp" (_⟨_⟩_ (name "temp") op.Modulo (number "0")) (name "ok")) (int (pos 5))) (is 11)
+    (binding "minutes" (name "minutes" ⟨ op.Add ⟩ number "1") (name "ok") gives binds ∷ [])
+    ∷ (binding "minutes" (name "temp" ⟨ op.Add ⟩ number "1") (name "ok") gives is 2 ∷ [])
+    ∷ (binding "temp" literalNull (un (nullTest true) (name "temp")) gives binds ∷ [])
+    ∷ (binding "minutes" literalNull (name "ok") gives is 2 ∷ [])
+    ∷ (binding "temp" (string "a") (name "ok") gives is 1 ∷ [])
+    ∷ (binding "temp" (number "1") (name "temp" ⟨ op.Equal ⟩ literalNull) gives is 3 ∷ [])
+    ∷ (binding "temp" (number "1") literalNull gives is 1 ∷ [])
+    ∷ (binding "temp" (number "1") (name "ok" ⟨ op.LessThan ⟩ literalTrue) gives is 1 ∷ [])
+    ∷ (binding "temp" (number "1") (literalNull ⟨ op.Equal ⟩ name "nosuch") gives is 1 ∷ [])
+    ∷ (binding "temp" (minus (number "9223372036854775808")) (name "ok") gives binds ∷ [])
+    ∷ (binding "temp" (minus (un parentheses (number "9223372036854775808"))) (name "ok") gives is 1 ∷ [])
+    ∷ (binding "serial" (string "x") (name "ok") gives is 2 ∷ [])
+    ∷ (run (setting "temp" (name "temp" ⟨ op.Modulo ⟩ number "0") (name "ok")) null gives temp null
+    ∷ run (setting "temp" (name "temp" ⟨ op.Modulo ⟩ number "0") (name "ok")) (int (pos 5)) gives is 11
     ∷ [])
-    ∷ (_gives_
-    (run (setting "temp" (_⟨_⟩_ (name "temp") op.Modulo (un (unary Negative) (number "1"))) (name "ok")) (int (negsuc (2 ^ 63 - 1))))
-    (temp (int (pos 0)))
-    ∷ _gives_
-    (run (setting "temp" (_⟨_⟩_ (name "temp") op.Divide (un (unary Negative) (number "1"))) (name "ok")) (int (negsuc (2 ^ 63 - 1))))
-    (is 11)
+    ∷ (run (setting "temp" (name "temp" ⟨ op.Modulo ⟩ minus (number "1")) (name "ok")) leastInt gives temp (int (pos 0))
+    ∷ run (setting "temp" (name "temp" ⟨ op.Divide ⟩ minus (number "1")) (name "ok")) leastInt gives is 11
     ∷ [])
     ∷ []
 
