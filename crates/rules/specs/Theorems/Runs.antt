@@ -80,7 +80,7 @@ literalNull = leaf Leaf.null
 abbrev pub literalTrue : Expr
 literalTrue = leaf (Leaf.boolean true)
 
-infixl 40 _⟨_⟩_
+infixl 80 _⟨_⟩_
 abbrev pub _⟨_⟩_ : Expr → BoundBinaryOperator → Expr → Expr
 a ⟨ o ⟩ b = bin (binary o) a b
 
@@ -131,7 +131,7 @@ pub record Case : Type 0 where
   pub asked : Asked
   pub answered : Answered
 
-infix 30 _gives_
+infix 70 _gives_
 abbrev pub _gives_ : Asked → Answered → Case
 q gives a = record { asked = q; answered = a }
 
