@@ -1,0 +1,4 @@
+pub mod Format
+pub mod Ways
+pub mod Laws
+pub mod Layout
