@@ -3,6 +3,7 @@
 use mathlib.Core.Path.{_≡_, refl, sym, ap, ap₂, _∙_, subst}
 use mathlib.Core.Bool.{Bool, true, false, cond}
 use mathlib.Core.Option.{Option, none, some, Option·none-ne-some, Option·some-injective}
+use mathlib.Core.Logic.{_⊎_, inl, inr}
 use mathlib.Core.List.{List, [], _∷_, _++_, map}
 use Prim.Native.Nat.{ℕ, zero, suc, _+_, _*_, _^_, _%_, _≤_, _<_}
 use native.Mathlib.Nat.{zero-mul, suc-mul, mod-lt}
@@ -20,7 +21,7 @@ use Rattle.wire.specs.Le.{Bytes, le, num, length-le, num-le, le-num, num-lt, dr
 use Rattle.utf8.specs.Utf8.{In, Two, Three, Three.e0, Three.e1-ec, Three.ed, Three.ee-ef, Four, Four.f0, Four.f1-f3, Four.f4, Utf8, Utf8.none, Utf8.one, Utf8.two, Utf8.three, Utf8.four}
 use Rattle.utf8.specs.Decide.{isUtf8, utf8-of}
 use Rattle.codec.specs.Format.{Format, Fixed, Parts, Coded, Every, Enum, countFrom}
-use Rattle.codec.specs.Ways.{next, joined, rawRead, numberRead, nothingRead, codeRead, boolIndex, headedWrite, headedRead, HeadedOk, rowRead, cutRead, optionalWrite, optionalRead, OptionalOk, InsideOk, endJoin, andJoin, eachJoin, choiceRead}
+use Rattle.codec.specs.Ways.{next, joined, rawRead, numberRead, nothingRead, codeRead, boolIndex, headedWrite, headedRead, HeadedOk, rowRead, cutRead, optionalWrite, optionalRead, OptionalOk, InsideOk, endJoin, andJoin, eachJoin, choiceRead, kindRead, left?, right?}
 
 -- ---- what a step that succeeded tells
 
@@ -363,3 +364,23 @@ module _ (w : ℕ) where
   bundle-back p l a h e =
       let k = p .back l a (h .2) e in
       (k .0, (rw (k .0) at (h .0), rw (k .0) at (h .1), k .1))
+
+module _ {A : Type 0} (e : Enum A) (i : ℕ) where
+  pub kind-there : (a : A) → e .index a ≡ i → kindRead e i [] ≡ some a
+  kind-there a h = rw (← h) (e .found a)
+
+  pub kind-back : (s : List ℕ) (a : A) → Bytes s → kindRead e i s ≡ some a → (s ≡ []) × (e .index a ≡ i)
+  kind-back [] a b h = (refl, at-place e i a h .0)
+  kind-back (x ∷ s) a b h = absurd (Option·none-ne-some a h)
+
+  pub kind-coded : (a : A) → e .index a ≡ i → (e .index a ≡ i) × (i < length (e .all))
+  kind-coded a h = (h, at-place e i a (kind-there a h) .1)
+
+module _ {A B : Type 0} where
+  pub left-is : (x : A ⊎ B) (a : A) → left? x ≡ some a → inl a ≡ x
+  left-is (inl x) a e = ap inl (sym (Option·some-injective x a e))
+  left-is (inr x) a e = absurd (Option·none-ne-some a e)
+
+  pub right-is : (x : A ⊎ B) (b : B) → right? x ≡ some b → inr b ≡ x
+  right-is (inl x) b e = absurd (Option·none-ne-some b e)
+  right-is (inr x) b e = ap inr (sym (Option·some-injective x b e))

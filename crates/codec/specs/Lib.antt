@@ -2,3 +2,4 @@ pub mod Format
 pub mod Ways
 pub mod Laws
 pub mod Layout
+pub mod Sums

@@ -107,3 +107,16 @@ eachJoin f (s ∷ l) = next (f .read s) (λ a. next (eachJoin f l) (λ m. some (
 abbrev pub choiceRead : {T : Type 0} → Coded T → List ℕ → Option T
 choiceRead c [] = none
 choiceRead c (i ∷ s) = c .form i .read s
+
+abbrev pub kindRead : {A : Type 0} → Enum A → ℕ → List ℕ → Option A
+kindRead e i [] = getElem? (e .all) i
+kindRead e i (b ∷ s) = none
+
+module _ {A B : Type 0} where
+  abbrev pub left? : A ⊎ B → Option A
+  left? (inl a) = some a
+  left? (inr b) = none
+
+  abbrev pub right? : A ⊎ B → Option B
+  right? (inl a) = none
+  right? (inr b) = some b
