@@ -1,0 +1,5 @@
+pub mod Format
+pub mod Ways
+pub mod Laws
+pub mod Layout
+pub mod Sums

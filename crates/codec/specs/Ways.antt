@@ -1,0 +1,122 @@
+-- How each format of `Layout.antt` writes and reads, where that takes more than a line.
+-- Assumes nothing: these are definitions.
+use mathlib.Core.Path.{_≡_}
+use mathlib.Core.Bool.{Bool, true, false, cond}
+use mathlib.Core.Option.{Option, none, some}
+use mathlib.Core.Logic.{_⊎_, inl, inr}
+use mathlib.Core.List.{List, [], _∷_, _++_, map}
+use Prim.Native.Nat.{ℕ, zero, suc, _+_, _^_, _<_}
+use lib.ListN.{length, take, drop, getElem?}
+use lib.Dec.{leb, eqb}
+use Rattle.wire.specs.Le.{Bytes, le, num}
+use Rattle.codec.specs.Format.{Format, Fixed, Parts, Coded, Every, Enum}
+
+-- a step, and the next where the first succeeded
+abbrev pub next : {X Y : Type 0} → Option X → (X → Option Y) → Option Y
+next none f = none
+next (some x) f = f x
+
+-- one behind the other
+abbrev pub joined : List (List ℕ) → List ℕ
+joined [] = []
+joined (s ∷ l) = s ++ joined l
+
+-- ---- fields
+
+-- exactly k bytes
+abbrev pub rawRead : ℕ → List ℕ → Option (List ℕ)
+rawRead k s = cond (eqb (length s) k) (some s) none
+
+abbrev pub numberRead : ℕ → List ℕ → Option ℕ
+numberRead k s = cond (eqb (length s) k) (some (num s)) none
+
+abbrev pub nothingRead : List ℕ → Option (Unit {0})
+nothingRead [] = some tt
+nothingRead (b ∷ s) = none
+
+abbrev pub codeRead : {A : Type 0} → Enum A → List ℕ → Option A
+codeRead e [] = none
+codeRead e (b ∷ []) = getElem? (e .all) b
+codeRead e (b ∷ c ∷ s) = none
+
+abbrev pub boolIndex : Bool → ℕ
+boolIndex false = 0
+boolIndex true = 1
+
+-- ---- one thing behind another
+
+module _ {A : Type 0} {B : A → Type 0} (f : Fixed A) (g : (a : A) → Format (B a)) where
+  abbrev pub headedWrite : (a : A) × B a → List ℕ
+  headedWrite p = f .form .write (p .0) ++ g (p .0) .write (p .1)
+
+  abbrev pub headedRead : List ℕ → Option ((a : A) × B a)
+  headedRead s = next (f .form .read (take (f .width) s)) (λ a. next (g a .read (drop (f .width) s)) (λ b. some (a, b)))
+
+  abbrev pub HeadedOk : (a : A) × B a → Type 0
+  HeadedOk p = f .form .Ok (p .0) × g (p .0) .Ok (p .1)
+
+-- n fields of one kind
+abbrev pub rowRead : {A : Type 0} → Fixed A → ℕ → List ℕ → Option (List A)
+rowRead f zero [] = some []
+rowRead f zero (b ∷ s) = none
+rowRead f (suc n) s = next (f .form .read (take (f .width) s)) (λ a. next (rowRead f n (drop (f .width) s)) (λ l. some (a ∷ l)))
+
+-- pieces of the lengths ns
+abbrev pub cutRead : List ℕ → List ℕ → Option (List (List ℕ))
+cutRead [] [] = some []
+cutRead [] (b ∷ s) = none
+cutRead (n ∷ ns) s = cond (leb n (length s)) (next (cutRead ns (drop n s)) (λ l. some (take n s ∷ l))) none
+
+-- ---- nothing at all, or a value
+
+module _ {A : Type 0} (f : Format A) where
+  abbrev pub optionalWrite : Option A → List ℕ
+  optionalWrite none = []
+  optionalWrite (some a) = f .write a
+
+  abbrev pub optionalRead : List ℕ → Option (Option A)
+  optionalRead [] = some none
+  optionalRead (b ∷ s) = next (f .read (b ∷ s)) (λ a. some (some a))
+
+  -- where there is a value, it has an image
+  abbrev pub OptionalOk : Option A → Type 0
+  OptionalOk none = Unit {0}
+  OptionalOk (some a) = f .Ok a
+
+  -- the same, and there must be a value
+  abbrev pub InsideOk : Option A → Type 0
+  InsideOk none = ⊥
+  InsideOk (some a) = f .Ok a
+
+-- ---- parts
+
+abbrev pub endJoin : List (List ℕ) → Option (Unit {0})
+endJoin [] = some tt
+endJoin (s ∷ l) = none
+
+abbrev pub andJoin : {A B : Type 0} → Format A → Parts B → List (List ℕ) → Option (A × B)
+andJoin f p [] = none
+andJoin f p (s ∷ l) = next (f .read s) (λ a. next (p .join l) (λ b. some (a, b)))
+
+abbrev pub eachJoin : {A : Type 0} → Format A → List (List ℕ) → Option (List A)
+eachJoin f [] = some []
+eachJoin f (s ∷ l) = next (f .read s) (λ a. next (eachJoin f l) (λ m. some (a ∷ m)))
+
+-- ---- codes
+
+abbrev pub choiceRead : {T : Type 0} → Coded T → List ℕ → Option T
+choiceRead c [] = none
+choiceRead c (i ∷ s) = c .form i .read s
+
+abbrev pub kindRead : {A : Type 0} → Enum A → ℕ → List ℕ → Option A
+kindRead e i [] = getElem? (e .all) i
+kindRead e i (b ∷ s) = none
+
+module _ {A B : Type 0} where
+  abbrev pub left? : A ⊎ B → Option A
+  left? (inl a) = some a
+  left? (inr b) = none
+
+  abbrev pub right? : A ⊎ B → Option B
+  right? (inl a) = none
+  right? (inr b) = some b
