@@ -36,10 +36,10 @@ use Rattle.rules.specs.Statements.{
   primaryKey,
   otherConstraint,
   CreateTable,
-  Source,
-  noSource,
-  notValues,
+  SourceBody,
   values,
+  notValues,
+  Source,
   Insert,
   Relation,
   direct,
@@ -300,11 +300,9 @@ insertValues (c ∷ cs) (e ∷ es) = do
 unfoldable pub insertRow : List BoundColumnRef → List Expr → Answer (List Value)
 insertRow cs es = refuseIf (not (eqb (length es) (length cs))) ConstraintViolation >> insertValues cs es
 
-unfoldable pub insertRows : List BoundColumnRef → Source → Answer (List (List Value))
-insertRows cs noSource = refuse UnsupportedSql
-insertRows cs (notValues clauses) = refuseIf clauses UnsupportedSql >> refuse UnsupportedSql
-insertRows cs (values clauses explicitRow rows) = do
-  refuseIf clauses UnsupportedSql
+unfoldable pub insertBody : List BoundColumnRef → SourceBody → Answer (List (List Value))
+insertBody cs notValues = refuse UnsupportedSql
+insertBody cs (values explicitRow rows) = do
   refuseIf explicitRow UnsupportedSql
   refuseIf (isEmpty rows) InvalidArgument
   each (insertRow cs) rows
@@ -318,7 +316,9 @@ analyzeInsert cat i = do
   cs ← insertColumns t [] (map canonical (i .columns))
   refuseIf (any (λ (c : ColumnSchema). inKey t (c .id) && missing (map canonical (i .columns)) c) (t .columns)) ConstraintViolation
   refuseIf (any (λ (c : ColumnSchema). not (c .nullable) && missing (map canonical (i .columns)) c) (t .columns)) ConstraintViolation
-  rows ← insertRows cs (i .source)
+  source ← found (i .source) UnsupportedSql
+  refuseIf (source .clauses) UnsupportedSql
+  rows ← insertBody cs (source .body)
   given (boundInsert (record { table = boundTable t; targetColumns = cs; rows = rows }))
 
 -- ---- one table: "joins and marks 3, name, unknown 1"

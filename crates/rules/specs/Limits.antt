@@ -24,10 +24,10 @@ use Rattle.rules.specs.Statements.{
   primaryKey,
   otherConstraint,
   CreateTable,
-  Source,
-  noSource,
-  notValues,
+  SourceBody,
   values,
+  notValues,
+  Source,
   Insert,
   Relation,
   direct,
@@ -126,10 +126,13 @@ heldByCreateTable c = record {
   rows = 0;
 }
 
-abbrev pub sourceRows : Source → List (List Expr)
-sourceRows noSource = []
-sourceRows (notValues clauses) = []
-sourceRows (values clauses explicitRow rows) = rows
+abbrev pub bodyRows : SourceBody → List (List Expr)
+bodyRows (values explicitRow rows) = rows
+bodyRows notValues = []
+
+abbrev pub sourceRows : Option Source → List (List Expr)
+sourceRows none = []
+sourceRows (some q) = bodyRows (q .body)
 
 unfoldable pub heldByInsert : Insert → Held
 heldByInsert i = record {

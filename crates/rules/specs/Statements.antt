@@ -77,16 +77,20 @@ pub record CreateTable : Type 0 where
 
 -- ---- INSERT
 
-pub data Source : Type 0 where
-  noSource : Source
-  notValues : (clauses : Bool) → Source
-  values : (clauses explicitRow : Bool) → List (List Expr) → Source
+pub data SourceBody : Type 0 where
+  values : (explicitRow : Bool) → List (List Expr) → SourceBody
+  notValues : SourceBody
+
+-- the query that is an INSERT's source
+pub record Source : Type 0 where
+  pub clauses : Bool
+  pub body : SourceBody
 
 pub record Insert : Type 0 where
   pub modified : Bool
   pub name : ObjectName
   pub columns : List Name
-  pub source : Source
+  pub source : Option Source
 
 -- ---- one table, of SELECT, UPDATE and DELETE
 
