@@ -11,3 +11,4 @@ pub mod Marking
 pub mod Obeys
 pub mod Fits
 pub mod Analyze
+pub mod Theorems
