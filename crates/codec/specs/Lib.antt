@@ -3,3 +3,4 @@ pub mod Ways
 pub mod Laws
 pub mod Layout
 pub mod Sums
+pub mod Cases
