@@ -4,3 +4,6 @@ pub mod Laws
 pub mod Layout
 pub mod Sums
 pub mod Cases
+pub mod Nodes
+pub mod NodeLaws
+pub mod Run
