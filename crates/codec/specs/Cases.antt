@@ -7,9 +7,12 @@ use mathlib.Core.List.{List, [], _∷_}
 use Prim.Native.Nat.{ℕ}
 use lib.IntN.{ℤ, pos, negsuc}
 use Rattle.utf8.specs.Decide.{isUtf8}
-use Rattle.codec.specs.Format.{Format}
+use lib.ListN.{getElem?}
+use Rattle.tree.specs.Tree.{Tree, Tree.leaf, Tree.un, Tree.bin, size}
+use Rattle.codec.specs.Format.{Format, Enum, Coded}
 use Rattle.codec.specs.Layout.{text, nothing, number, mark, alone, int64, headed, both, optional, end, _and_, listOf, recordOf}
-use Rattle.codec.specs.Sums.{Case, case, Some, nth, made, sum, choice}
+use Rattle.codec.specs.Sums.{Case, case, Some, nth, made, sum, choice, kinds}
+use Rattle.codec.specs.Run.{run, labels, labelsWith}
 
 -- ---- lists and records
 
@@ -97,3 +100,102 @@ no-default = refl
 
 a-default : default .read (2 ∷ 1 ∷ []) ≡ some (some (Truth true))
 a-default = refl
+
+-- ---- runs
+
+data Leaf : Type 0 where
+  Name Digits : List ℕ → Leaf
+  Nothing : Leaf
+
+abbrev leafs : List (Case Leaf)
+leafs = case text Name ∷ case text Digits ∷ case nothing (λ u. Nothing) ∷ []
+
+abbrev leaf? : Leaf → Some leafs
+leaf? (Name s) = nth leafs 0 s
+leaf? (Digits s) = nth leafs 1 s
+leaf? Nothing = nth leafs 2 tt
+
+made-leaf : (l : Leaf) → made leafs (leaf? l) ≡ l
+made-leaf (Name s) = refl
+made-leaf (Digits s) = refl
+made-leaf Nothing = refl
+
+data Op : Type 0 where
+  plus minus : Op
+
+abbrev place : Op → ℕ
+place plus = 0
+place minus = 1
+
+found-op : (o : Op) → getElem? (plus ∷ minus ∷ []) (place o) ≡ some o
+found-op plus = refl
+found-op minus = refl
+
+abbrev ops : Enum Op
+ops = record { all = plus ∷ minus ∷ []; index = place; found = found-op; order = refl; few = refl }
+
+-- kinds 0 to 2 are leaves, 3 and 4 have one operand, 5 and 6 two
+abbrev leafCodes : Coded Leaf
+leafCodes = sum leafs leaf? made-leaf ((λ s. refl), ((λ s. refl), ((λ u. refl), tt)))
+
+abbrev expression : Format (Tree Leaf Op Op)
+expression = run 2 (labels leafCodes (kinds ops) (kinds ops) refl)
+
+-- a + -1
+abbrev sum-of-two : Tree Leaf Op Op
+sum-of-two = bin plus (leaf (Name (97 ∷ []))) (un minus (leaf (Digits (49 ∷ []))))
+
+-- four nodes (kind, span, end), and the contents "a" and "1"
+abbrev its-run : List ℕ
+its-run = 4 ∷ 0
+    ∷ 0 ∷ 1 ∷ 0 ∷ 1 ∷ 0
+    ∷ 1 ∷ 1 ∷ 0 ∷ 2 ∷ 0
+    ∷ 4 ∷ 2 ∷ 0 ∷ 2 ∷ 0
+    ∷ 5 ∷ 4 ∷ 0 ∷ 2 ∷ 0
+    ∷ 97 ∷ 49 ∷ []
+
+a-run : expression .write sum-of-two ≡ its-run
+unfolding size
+a-run = refl
+
+a-run-read : expression .read its-run ≡ some sum-of-two
+unfolding size isUtf8
+a-run-read = refl
+
+-- the root's span is 3: a node would be left over
+a-wrong-span : expression .read (4 ∷ 0 ∷ 0 ∷ 1 ∷ 0 ∷ 1 ∷ 0 ∷ 1 ∷ 1 ∷ 0 ∷ 2 ∷ 0 ∷ 4 ∷ 2 ∷ 0 ∷ 2 ∷ 0 ∷ 5 ∷ 3 ∷ 0 ∷ 2 ∷ 0 ∷ 97 ∷ 49 ∷ []) ≡ none
+unfolding size isUtf8
+a-wrong-span = refl
+
+-- two trees
+two-roots : expression .read (2 ∷ 0 ∷ 2 ∷ 1 ∷ 0 ∷ 0 ∷ 0 ∷ 2 ∷ 1 ∷ 0 ∷ 0 ∷ 0 ∷ []) ≡ none
+unfolding size isUtf8
+two-roots = refl
+
+no-node : expression .read (0 ∷ 0 ∷ []) ≡ none
+unfolding size isUtf8
+no-node = refl
+
+-- ends that fall
+ends-that-fall : expression .read (2 ∷ 0 ∷ 0 ∷ 1 ∷ 0 ∷ 1 ∷ 0 ∷ 4 ∷ 2 ∷ 0 ∷ 0 ∷ 0 ∷ 97 ∷ []) ≡ none
+unfolding size isUtf8
+ends-that-fall = refl
+
+-- a node with an operand and content
+content-of-minus : expression .read (2 ∷ 0 ∷ 2 ∷ 1 ∷ 0 ∷ 0 ∷ 0 ∷ 4 ∷ 2 ∷ 0 ∷ 1 ∷ 0 ∷ 97 ∷ []) ≡ none
+unfolding size isUtf8
+content-of-minus = refl
+
+-- the same with a head of two bytes, a code and a mark, and counts of four bytes
+abbrev marked : Format (Tree (Bool × Leaf) (Bool × Op) (Bool × Op))
+marked = run 4 (labelsWith leafCodes (kinds ops) (kinds ops) mark refl)
+
+a-marked-run : marked .write (un (true, plus) (leaf (false, Name (97 ∷ [])))) ≡
+    2 ∷ 0 ∷ 0 ∷ 0 ∷ 0 ∷ 0 ∷ 1 ∷ 0 ∷ 0 ∷ 0 ∷ 1 ∷ 0 ∷ 0 ∷ 0 ∷ 3 ∷ 1 ∷ 2 ∷ 0 ∷ 0 ∷ 0 ∷ 1 ∷ 0 ∷ 0 ∷ 0 ∷ 97 ∷ []
+unfolding size
+a-marked-run = refl
+
+a-marked-run-read : marked .read (2 ∷ 0 ∷ 0 ∷ 0 ∷ 0 ∷ 0 ∷ 1 ∷ 0 ∷ 0 ∷ 0 ∷ 1 ∷ 0 ∷ 0 ∷ 0 ∷ 3 ∷ 1 ∷ 2 ∷ 0 ∷ 0 ∷ 0 ∷ 1 ∷ 0 ∷ 0 ∷ 0 ∷ 97 ∷ [])
+    ≡ some (un (true, plus) (leaf (false, Name (97 ∷ []))))
+unfolding size isUtf8
+a-marked-run-read = refl
