@@ -5,14 +5,15 @@
 -- The last two arguments of `sum` say that `which` and the constructors undo each other: a `refl` for each constructor, both times.
 -- Assumes nothing.
 use mathlib.Core.Path.{_≡_, refl, sym, ap}
-use mathlib.Core.Bool.{Bool, true}
+use mathlib.Core.Bool.{Bool, true, false}
 use mathlib.Core.Option.{Option, none, some, Option·none-ne-some}
 use mathlib.Core.Logic.{_⊎_, inl, inr}
 use mathlib.Core.List.{List, [], _∷_}
-use Prim.Native.Nat.{ℕ, zero, suc, _<_}
+use Prim.Native.Nat.{ℕ, zero, suc, _+_, _-_, _<_}
 use native.Mathlib.Omega.{arith}
 use lib.ListN.{length}
-use lib.Dec.{leb}
+use lib.Dec.{leb, ltb}
+use borrow.Author.Tests.{ltb-false}
 use Rattle.codec.specs.Format.{Format, Fixed, Coded, Enum}
 use Rattle.codec.specs.Ways as W
 use Rattle.codec.specs.Laws as L
@@ -54,8 +55,6 @@ beside f c = record {
   coded = λ i p h. c .coded i (p .1) (h .1);
 }
 
--- ---- a code for each constructor
-
 -- no value has such an image
 abbrev pub never : {A : Type 0} → Format A
 never = record {
@@ -78,6 +77,41 @@ inside f make out mo om = record {
   back = L.inside-back f make out mo om;
   bytes = L.inside-bytes f make out mo om;
 }
+
+-- the same codes for a type whose values are those of A
+abbrev pub recode : {A T : Type 0} (c : Coded A) (f : A → T) (g : T → A) → ((t : T) → f (g t) ≡ t) → ((a : A) → g (f a) ≡ a) → Coded T
+recode c f g fg gf = record {
+  count = c .count;
+  code = λ t. c .code (g t);
+  form = λ i. via (c .form i) f g fg (λ a h. gf a);
+  coded = λ i t h. c .coded i (g t) h;
+}
+
+-- the codes of A, and behind them those of B
+module _ {A B : Type 0} (c : Coded A) (d : Coded B) where
+  abbrev pub eitherCode : A ⊎ B → ℕ
+  eitherCode (inl a) = c .code a
+  eitherCode (inr b) = c .count + d .code b
+
+  abbrev pub eitherForm : ℕ → Bool → Format (A ⊎ B)
+  eitherForm i true = inside (c .form i) inl W.left? (λ a. refl) L.left-is
+  eitherForm i false = inside (d .form (i - c .count)) inr W.right? (λ b. refl) L.right-is
+
+  pub either-coded : (i : ℕ) (t : Bool) → ltb i (c .count) ≡ t → (x : A ⊎ B) → eitherForm i t .Ok x → (eitherCode x ≡ i) × (i < c .count + d .count)
+  either-coded i true e (inl a) h = let k = c .coded i a h in (k .0, omega arith)
+  either-coded i true e (inr b) h = absurd h
+  either-coded i false e (inl a) h = absurd h
+  either-coded i false e (inr b) h = let k = d .coded (i - c .count) b h in omega (arith, ltb-false i (c .count) e)
+
+  abbrev pub either : Coded (A ⊎ B)
+  either = record {
+    count = c .count + d .count;
+    code = eitherCode;
+    form = λ i. eitherForm i (ltb i (c .count));
+    coded = λ i x h. either-coded i (ltb i (c .count)) refl x h;
+  }
+
+-- ---- a code for each constructor
 
 -- what follows the code, and the value that it makes
 pub record Case (T : Type 0) : Type 1 where
@@ -137,10 +171,8 @@ module _ {T : Type 0} where
   some-coded (c ∷ l) (suc i) (inl x) h = absurd h
   some-coded (c ∷ l) (suc i) (inr y) h = let k = some-coded l i y h in (ap suc (k .0), omega arith)
 
+  abbrev pub someOf : (l : List (Case T)) → Coded (Some l)
+  someOf l = record { count = length l; code = someCode l; form = someForm l; coded = some-coded l }
+
   abbrev pub sum : (l : List (Case T)) (which : T → Some l) → ((t : T) → made l (which t) ≡ t) → Each l (λ x. which (made l x) ≡ x) → Coded T
-  sum l which mw wm = record {
-    count = length l;
-    code = λ t. someCode l (which t);
-    form = λ i. via (someForm l i) (made l) which mw (λ x h. each-one l (λ y. which (made l y) ≡ y) wm x);
-    coded = λ i t h. some-coded l i (which t) h;
-  }
+  sum l which mw wm = recode (someOf l) (made l) which mw (each-one l (λ x. which (made l x) ≡ x) wm)
