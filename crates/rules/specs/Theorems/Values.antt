@@ -74,8 +74,18 @@ use Rattle.rules.specs.Theorems.HasMark.{OfType, an-int, a-text, a-bool,
 -- ---- what is worked out
 
 module _ {A : Type 0} {P : A → Type 0} where
+  -- what holds of whatever it comes to
+  pub so-too : {Q : A → Type 0} {w : Worked A} → ((a : A) → P a → Q a) → FaultsOr w P → FaultsOr w Q
+  so-too k (inl e) = inl e
+  so-too k (inr p) = inr (p .0, p .1, k (p .0) (p .2))
+
+  pub comes-to : {w : Worked A} {a : A} → FaultsOr w P → w ≡ worked a → P a
+  comes-to (inl f) e = let z : _≡_ {A = ℕ} 0 1 = cc in absurd (omega arith)
+  comes-to {a = a} (inr p) e = let h : p .0 ≡ a = cc in rw h at (p .2)
+
   -- a step, and the next from what the first came to
-  pub and-next : {B : Type 0} {Q : B → Type 0} {w : Worked A} (f : A → Worked B) → FaultsOr w P → ((a : A) → P a → FaultsOr (f a) Q) → FaultsOr (then w f) Q
+  pub and-next : {B : Type 0} {Q : B → Type 0} {w : Worked A} (f : A → Worked B) → FaultsOr w P → ((a : A) → P a → FaultsOr (f a) Q)
+      → FaultsOr (then w f) Q
   and-next f (inl e) k = rw e (inl refl)
   and-next f (inr p) k = rw (p .1) (k (p .0) (p .2))
 
@@ -196,8 +206,7 @@ typed-as : {t : ExpressionType} {m : Mark} {v : Value} → m .ty ≡ t → OfTyp
 typed-as e q = of-type (rw (← e) at q)
 
 typed-mark : {t : ExpressionType} {m : Mark} {w : Worked Value} → m .ty ≡ t → FaultsOr w (OfType t) → FaultsOr w (HasMark m)
-typed-mark e (inl h) = inl h
-typed-mark e (inr p) = inr (p .0, p .1, typed-as e (p .2))
+typed-mark e = so-too (λ v q. typed-as e q)
 
 binary-has-mark : (o : Binary) {a b m : Mark} {x y : Value} → BinaryObeys o a b m → HasMark a x → HasMark b y → FaultsOr (binaryValue o x y) (HasMark m)
 unfolding BinaryObeys binaryValue
