@@ -2,7 +2,7 @@
 -- Assumes nothing.
 use mathlib.Core.Path.{_≡_, refl, sym}
 use mathlib.Core.Bool.{Bool, true, false, cond, true≢false, false≢true}
-use mathlib.Core.Logic.{_↔_}
+use mathlib.Core.Logic.{_↔_, _⊎_, inl, inr, ⊎-elim}
 use mathlib.Core.Option.{Option, none, some}
 use Prim.Native.Nat.{ℕ}
 use native.Mathlib.Omega.{arith}
@@ -76,8 +76,18 @@ module _ {A M : Type 0} {f : A → M} where
   reads-unless true k r = reads-none k (λ m p. true≢false (p .0))
   reads-unless false k r = reads-as (λ m. (λ p. (refl, p), λ p. p .1)) r
 
+  -- a test that chooses
+  pub reads-either : {v w : Verdict A} {P Q : M → Type 0} (b : Bool) → Reads f v P → Reads f w Q
+      → Reads f (cond b v w) (λ m. ((b ≡ true) × P m) ⊎ ((b ≡ false) × Q m))
+  reads-either true r q = reads-as (λ m. (λ p. inl (refl, p), ⊎-elim (λ p. p .1) (λ p. absurd (true≢false (p .0))))) r
+  reads-either false r q = reads-as (λ m. (λ p. inr (refl, p), ⊎-elim (λ p. absurd (false≢true (p .0))) (λ p. p .1))) q
+
   -- something looked for, that must be there
   pub reads-found : {C : Type 0} (v : Option C → Verdict A) (g : C → A) (k : Class) → v none ≡ flaw k → ((c : C) → v (some c) ≡ fine (g c))
       → (o : Option C) → Reads f (v o) (λ m. (c : C) × (o ≡ some c) × (m ≡ f (g c)))
   reads-found v g k e e′ none = rw e (reads-none k (λ m p. never-some (p .1)))
   reads-found v g k e e′ (some c) = rw (e′ c) (reads-as (λ m. (λ p. (c, refl, p), λ p. let h : c ≡ p .0 = cc in rw h (p .2))) (reads-fine (g c)))
+
+-- a verdict with nothing to tell but that it is fine
+pub passed : {v : Verdict Unit} {P : Type 0} → Exactly v (λ u. P) → (v ≡ fine tt) ↔ P
+passed r = (r .only tt, λ p. r .all tt p .1)

@@ -1,7 +1,7 @@
 -- The operator table is the rule of the operators, entry by entry.
 -- Assumes nothing.
 use mathlib.Core.Path.{_≡_, refl}
-use mathlib.Core.List.{List, [], _∷_, map}
+use mathlib.Core.List.{[], map}
 use Prim.Native.Nat.{ℕ}
 use lib.ListN.{length, getD, replicate}
 use Rattle.rules.specs.declared.Class.the-variants.{SchemaMismatch}
@@ -9,7 +9,7 @@ use Rattle.rules.specs.declared.ExpressionType.{ExpressionType}
 use Rattle.rules.specs.declared.ExpressionType.the-variants as type
 use Rattle.rules.specs.declared.BoundBinaryOperator.{BoundBinaryOperator}
 use Rattle.rules.specs.declared.BoundBinaryOperator.the-variants as op
-use Rattle.rules.specs.Answers.{Verdict, flaw}
+use Rattle.rules.specs.Answers.{flaw}
 use Rattle.rules.specs.Marking.{operatorRule, operators, types, operatorTable}
 
 -- operators and types by their numbers, in the order in which they are declared
