@@ -1,0 +1,67 @@
+-- The operator table is the rule of the operators, entry by entry.
+-- Assumes nothing.
+use mathlib.Core.Path.{_≡_, refl}
+use mathlib.Core.List.{[], map}
+use Prim.Native.Nat.{ℕ}
+use lib.ListN.{length, getD, replicate}
+use Rattle.rules.specs.declared.Class.the-variants.{SchemaMismatch}
+use Rattle.rules.specs.declared.ExpressionType.{ExpressionType}
+use Rattle.rules.specs.declared.ExpressionType.the-variants as type
+use Rattle.rules.specs.declared.BoundBinaryOperator.{BoundBinaryOperator}
+use Rattle.rules.specs.declared.BoundBinaryOperator.the-variants as op
+use Rattle.rules.specs.Answers.{flaw}
+use Rattle.rules.specs.Marking.{operatorRule, operators, types, operatorTable}
+
+-- operators and types by their numbers, in the order in which they are declared
+abbrev pub operatorNo : BoundBinaryOperator → ℕ
+operatorNo op.Add = 0
+operatorNo op.Subtract = 1
+operatorNo op.Multiply = 2
+operatorNo op.Divide = 3
+operatorNo op.Modulo = 4
+operatorNo op.Equal = 5
+operatorNo op.NotEqual = 6
+operatorNo op.GreaterThan = 7
+operatorNo op.GreaterThanOrEqual = 8
+operatorNo op.LessThan = 9
+operatorNo op.LessThanOrEqual = 10
+operatorNo op.And = 11
+operatorNo op.Or = 12
+
+abbrev pub typeNo : ExpressionType → ℕ
+typeNo type.Int = 0
+typeNo type.Text = 1
+typeNo type.Bool = 2
+typeNo type.Null = 3
+
+at-type : {B : Type 0} (f : ExpressionType → B) (d : B) (a : ExpressionType) → getD (map f types) (typeNo a) d ≡ f a
+at-type f d type.Int = refl
+at-type f d type.Text = refl
+at-type f d type.Bool = refl
+at-type f d type.Null = refl
+
+at-operator : {B : Type 0} (f : BoundBinaryOperator → B) (d : B) (o : BoundBinaryOperator) → getD (map f operators) (operatorNo o) d ≡ f o
+at-operator f d op.Add = refl
+at-operator f d op.Subtract = refl
+at-operator f d op.Multiply = refl
+at-operator f d op.Divide = refl
+at-operator f d op.Modulo = refl
+at-operator f d op.Equal = refl
+at-operator f d op.NotEqual = refl
+at-operator f d op.GreaterThan = refl
+at-operator f d op.GreaterThanOrEqual = refl
+at-operator f d op.LessThan = refl
+at-operator f d op.LessThanOrEqual = refl
+at-operator f d op.And = refl
+at-operator f d op.Or = refl
+
+-- "The 13 operators by left and right type are kept as one table, 13 by 4 by 4."
+pub table-shape : map (map length) operatorTable ≡ replicate 13 (replicate 4 4)
+unfolding operatorTable
+table-shape = refl
+
+-- The entry for an operator and two types is the rule.
+pub table-entry : (o : BoundBinaryOperator) (a b : ExpressionType)
+    → getD (getD (getD operatorTable (operatorNo o) []) (typeNo a) []) (typeNo b) (flaw SchemaMismatch) ≡ operatorRule o a b
+unfolding operatorTable
+table-entry o a b = rw (at-operator, at-type, at-type)
