@@ -249,7 +249,7 @@ module _ {s : Read Statement} {c : Read Catalogue} {u : Update} {t : TableSchema
   taken-judged = rw (taken .statementIsWithin, taken .catalogueIsWithin, taken .clearOfEight)
 
   -- nor does a refusal before the assignments are looked at
-  taken-analyzed : analyze (c .value) (s .value) ≡ bindUpdate t (u .assignments) w
+  pub taken-analyzed : analyze (c .value) (s .value) ≡ bindUpdate t (u .assignments) w
   unfolding analyze analyzeKind analyzeUpdate resolveDirectTable relationName simpleName
   taken-analyzed =
       rw (

@@ -6,7 +6,6 @@ use mathlib.Core.Logic.{_↔_, _⊎_, inl, inr}
 use mathlib.Core.List.{List, [], _∷_}
 use mathlib.Core.Option.{Option, none, some}
 use Prim.Native.Nat.{ℕ, zero, suc, _+_}
-use native.Mathlib.Omega.{arith}
 use native.Mathlib.Nat.{add-zero, add-suc, suc-add, zero-add}
 use lib.ListN.{getD}
 use lib.IntN.{ℤ, pos, negsuc, negℤ, _+ℤ_, _-ℤ_, _*ℤ_}
@@ -69,6 +68,7 @@ use Rattle.rules.specs.Evaluate.{
   leafValue,
   evaluate,
 }
+use Rattle.rules.specs.Theorems.Answered.{never-some}
 use Rattle.rules.specs.Theorems.HasMark.{OfType, an-int, a-text, a-bool, HasMark, of-type, may-be-null, FaultsOr}
 
 -- ---- what is worked out
@@ -80,7 +80,7 @@ module _ {A : Type 0} {P : A → Type 0} where
   so-too k (inr p) = inr (p .0, p .1, k (p .0) (p .2))
 
   pub comes-to : {w : Worked A} {a : A} → FaultsOr w P → w ≡ worked a → P a
-  comes-to (inl f) e = let z : _≡_ {A = ℕ} 0 1 = cc in absurd (omega arith)
+  comes-to (inl f) e = absurd (false≢true (cc))
   comes-to {a = a} (inr p) e = let h : p .0 ≡ a = cc in rw h at (p .2)
 
   -- a step, and the next from what the first came to
@@ -93,9 +93,6 @@ module _ {A : Type 0} {P : A → Type 0} where
 
 abbrev InRange : Option ℤ → Type 0
 InRange o = (z : ℤ) → o ≡ some z → inRange z ≡ true
-
-never-some : {A : Type 0} {a : A} → none ≡ some a → ⊥
-never-some {A} {a} h = let z : _≡_ {A = ℕ} 0 1 = cc in omega arith
 
 ranged-in-range : (z : ℤ) → InRange (ranged z)
 ranged-in-range z = go (inRange z) refl
