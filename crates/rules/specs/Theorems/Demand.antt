@@ -60,8 +60,8 @@ module _ {s : Read Statement} {c : Read Catalogue} {u : Update} {t : TableSchema
       )
 
 -- "Run on a row that obeys the table, it faults exactly where 01's value rules do, else yields the row they name, which obeys the table too."
-pub runs-exactly : (s : Read Statement) (c : Read Catalogue) (u : Update) (t : TableSchema) (w : Expr) → Taken s c u t w → (size : Row → ℕ) (room : ℕ)
-    → RunsExactly s c u t w size room
+pub runs-exactly : (s : Read Statement) (c : Read Catalogue) (u : Update) (t : TableSchema) (w : Expr) → Taken s c u t w
+    → (size : Row → ℕ) (room : ℕ) → RunsExactly s c u t w size room
 unfolding runOutcome
 runs-exactly s c u t w taken size room o row obeys h =
     let e : runOutcome size room (some s) (some c) (some row) ≡ workedOut (updateRow t w (u .assignments) row) =

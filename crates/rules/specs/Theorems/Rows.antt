@@ -42,8 +42,8 @@ set-stands (behind s) [] v h p = absurd (false≢true h)
 set-stands (behind s) (x ∷ row) v h p = let w = simp and-eq-true-iff at h in simp and-eq-true-iff (w .0, set-stands s row v (w .1) p)
 
 -- A row that obeys the table obeys it again with a value put at a column's position that has the column's mark.
-pub set-obeys : (t : TableSchema) {c : BoundColumnRef} (name : Text) → columnByName t name ≡ some c → (row : Row) (v : Value) → rowObeys t row ≡ true
-    → HasMark (columnMark c) v → rowObeys t (set row (c .ordinal .0) v) ≡ true
+pub set-obeys : (t : TableSchema) {c : BoundColumnRef} (name : Text) → columnByName t name ≡ some c → (row : Row) (v : Value)
+    → rowObeys t row ≡ true → HasMark (columnMark c) v → rowObeys t (set row (c .ordinal .0) v) ≡ true
 unfolding rowObeys boundColumn
 set-obeys t name h row v o m =
     let w = column-of name h in
@@ -66,43 +66,46 @@ pub record Updated (t : TableSchema) (targets : List BoundColumnRef) (old new : 
 
 module _ (t : TableSchema) (row : Row) (obeys : rowObeys t row ≡ true) where
   -- all values come from the old row, and go into the new one
-  assigned-updates : {changes : List Assignment} {targets : List BoundColumnRef} → AssignmentsObey t changes targets → (new : Row) → rowObeys t new ≡ true
-      → FaultsOr (assigned t row new changes) (Updated t targets new)
+  assigned-updates : {changes : List Assignment} {targets : List BoundColumnRef} → AssignmentsObey t changes targets → (new : Row)
+      → rowObeys t new ≡ true → FaultsOr (assigned t row new changes) (Updated t targets new)
   unfolding assigned
   assigned-updates no-more new h = inr (new, refl, record { obeys = h; othersStay = λ n out. refl })
   assigned-updates (and-then {a = a} {c = c} {rest = rest} {cs = cs} p q) new h =
       and-next _ (value-has-mark t row obeys (a .value) (p .marking) (p .valueObeys))
-      (λ v m. rw (target-column p)
-      (so-too
-      (λ next u. record {
+      (λ v m.
+      let next = assigned-updates q (set new (c .ordinal .0) v) (set-obeys t (canonical (p .name)) (p .isColumn) new v h (fits-column (p .fits) m)) in
+      rw (target-column p) (so-too (λ r u. one-more v u) next))
+    where
+      one-more : {r : Row} (v : Value) → Updated t cs (set new (c .ordinal .0) v) r → Updated t (c ∷ cs) new r
+      one-more v u = record {
         obeys = u .obeys;
-        othersStay = λ n out. u .othersStay n (λ d i. out d (List·Memᴰ·tail i)) ∙ getD-set-other new (c .ordinal .0) n v null (out c (List·Memᴰ·head refl));
-      })
-      (assigned-updates q (set new (c .ordinal .0) v) (set-obeys t (canonical (p .name)) (p .isColumn) new v h (fits-column (p .fits) m)))))
+        othersStay = λ n out.
+            u .othersStay n (λ d i. out d (List·Memᴰ·tail i)) ∙ getD-set-other new (c .ordinal .0) n v null (out c (List·Memᴰ·head refl));
+      }
 
-  -- Run on a row that obeys the table, an UPDATE that obeys the rules faults, or yields a row that obeys the table too; other columns stay.
-  pub update-updates : {changes : List Assignment} {condition : Expr} (o : UpdateObeys t changes condition)
+  row-updates : {changes : List Assignment} {condition : Expr} (o : UpdateObeys t changes condition)
       → FaultsOr (updateRow t condition changes row) (Updated t (o .targets) row)
   unfolding updateRow
-  update-updates {changes} {condition} o =
+  row-updates {changes} {condition} o =
       and-next _ (value-has-mark t row obeys condition (o .marking) (o .conditionObeys)) (λ v m. go (isTrue v))
     where
       go : (b : Bool) → FaultsOr (elim b [ true ↦ assigned t row row changes | false ↦ worked row ]) (Updated t (o .targets) row)
       go true = assigned-updates (o .assignmentsObey) row obeys
       go false = inr (row, refl, record { obeys = obeys; othersStay = λ n out. refl })
 
+  -- Run on a row that obeys the table, an UPDATE that obeys the rules faults, or yields a row that obeys the table too.
   pub update-obeys : {changes : List Assignment} {condition : Expr} → UpdateObeys t changes condition
       → FaultsOr (updateRow t condition changes row) (λ new. rowObeys t new ≡ true)
-  update-obeys o = so-too (λ new u. u .obeys) (update-updates o)
+  update-obeys o = so-too (λ new u. u .obeys) (row-updates o)
 
   -- "other columns stay": at every position that is no target's the new row has the old value.
-  pub others-stay : {changes : List Assignment} {condition : Expr} {new : Row} (o : UpdateObeys t changes condition) → updateRow t condition changes row ≡ worked new
-      → (n : ℕ) → NoTarget (o .targets) n → getD new n null ≡ getD row n null
-  others-stay o e = comes-to (update-updates o) e .othersStay
+  pub others-stay : {changes : List Assignment} {condition : Expr} {new : Row} (o : UpdateObeys t changes condition)
+      → updateRow t condition changes row ≡ worked new → (n : ℕ) → NoTarget (o .targets) n → getD new n null ≡ getD row n null
+  others-stay o e = comes-to (row-updates o) e .othersStay
 
 -- "If WHERE isn't TRUE the row is written as it is and no value is worked out."
-pub unless-true : (t : TableSchema) (row : Row) (changes : List Assignment) (condition : Expr) (v : Value) → evaluate t row condition ≡ worked v → isTrue v ≡ false
-    → updateRow t condition changes row ≡ worked row
+pub unless-true : (t : TableSchema) (row : Row) (changes : List Assignment) (condition : Expr) (v : Value)
+    → evaluate t row condition ≡ worked v → isTrue v ≡ false → updateRow t condition changes row ≡ worked row
 unfolding updateRow
 unless-true t row changes condition v e f =
     rw e (ap (λ (b : Bool). elim b as (λ x. Worked Row) [ true ↦ assigned t row row changes | false ↦ worked row ]) f)

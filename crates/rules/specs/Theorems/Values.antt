@@ -205,7 +205,8 @@ typed-as e q = of-type (rw (← e) at q)
 typed-mark : {t : ExpressionType} {m : Mark} {w : Worked Value} → m .ty ≡ t → FaultsOr w (OfType t) → FaultsOr w (HasMark m)
 typed-mark e = so-too (λ v q. typed-as e q)
 
-binary-has-mark : (o : Binary) {a b m : Mark} {x y : Value} → BinaryObeys o a b m → HasMark a x → HasMark b y → FaultsOr (binaryValue o x y) (HasMark m)
+binary-has-mark : (o : Binary) {a b m : Mark} {x y : Value} → BinaryObeys o a b m → HasMark a x → HasMark b y
+    → FaultsOr (binaryValue o x y) (HasMark m)
 unfolding BinaryObeys binaryValue
 binary-has-mark (binary o) p (may-be-null n) q′ = inr (null, refl, may-be-null (rw (p .1, n)))
 binary-has-mark (binary o) p (of-type q) (may-be-null n) = inr (null, rw (not-null q), may-be-null (rw (p .1, n, or-true)))
@@ -213,8 +214,8 @@ binary-has-mark (binary o) p (of-type q) (of-type q′) = rw (not-null q, not-nu
 binary-has-mark otherBinary p q q′ = absurd p
 
 -- an operand of a sign or of NOT
-operand-has-mark : {t : ExpressionType} {a m : Mark} {x : Value} {w : Worked Value} → (a .ty ≡ t) × (m ≡ a) → (OfType t x → FaultsOr w (OfType t)) → HasMark a x
-    → FaultsOr (orNull x w) (HasMark m)
+operand-has-mark : {t : ExpressionType} {a m : Mark} {x : Value} {w : Worked Value} → (a .ty ≡ t) × (m ≡ a)
+    → (OfType t x → FaultsOr w (OfType t)) → HasMark a x → FaultsOr (orNull x w) (HasMark m)
 operand-has-mark p k (may-be-null n) = inr (null, refl, may-be-null (rw (p .1) n))
 operand-has-mark p k (of-type q) = rw (p .1, not-null q) (typed-mark (p .0) (k (rw (p .0) at q)))
 
@@ -236,28 +237,34 @@ unary-has-mark (unary Negative) p q = operand-has-mark p negative-type q
 unary-has-mark (unary Not) p q = operand-has-mark p not-type q
 unary-has-mark otherUnary p q = absurd p
 
--- ---- names
+-- ---- leaves and trees
+
+number-has-mark : (negative : Bool) (s : Text) {m : Mark} → NumberObeys negative s m
+    → FaultsOr (literalValue (integerLiteral negative s)) (HasMark m)
+number-has-mark negative s p =
+    rw (p .ranged, p .marked) (inr (int (p .value), refl, of-type (an-int (literal-in-range negative s (p .value) (p .ranged)))))
 
 -- a column stands at a position, counted from 0
 pub data StandsAt (c : ColumnSchema) : ℕ → List ColumnSchema → Type 0 where
   here : {cs : List ColumnSchema} → StandsAt c 0 (c ∷ cs)
   behind : {d : ColumnSchema} {n : ℕ} {cs : List ColumnSchema} → StandsAt c n cs → StandsAt c (suc n) (d ∷ cs)
 
--- what is found among the bound columns from position n on is a column of the table, bound with its position
-found-stands : (t : TableSchema) (p : BoundColumnRef → Bool) (n : ℕ) (cs : List ColumnSchema) (r : BoundColumnRef) → find p (boundColumnsFrom t n cs) ≡ some r
-    → (k : ℕ) × (c : ColumnSchema) × StandsAt c k cs × (r ≡ boundColumn t (n + k) c)
+-- a bound column is one of these columns, bound with its position, where the first of them stands at n
+abbrev BoundFrom : TableSchema → ℕ → List ColumnSchema → BoundColumnRef → Type 0
+BoundFrom t n cs r = (k : ℕ) × (c : ColumnSchema) × StandsAt c k cs × (r ≡ boundColumn t (n + k) c)
+
+found-bound : (t : TableSchema) (p : BoundColumnRef → Bool) (n : ℕ) (cs : List ColumnSchema) (r : BoundColumnRef)
+    → find p (boundColumnsFrom t n cs) ≡ some r → BoundFrom t n cs r
 unfolding boundColumnsFrom
-found-stands t p n [] r h = absurd (never-some h)
-found-stands t p n (c ∷ cs) r h = go (p (boundColumn t n c)) (found-stands t p (suc n) cs r) h
+found-bound t p n [] r h = absurd (never-some h)
+found-bound t p n (c ∷ cs) r h = go (p (boundColumn t n c)) (found-bound t p (suc n) cs r) h
   where
-    go : (b : Bool)
-        → (find p (boundColumnsFrom t (suc n) cs) ≡ some r → (k : ℕ) × (d : ColumnSchema) × StandsAt d k cs × (r ≡ boundColumn t (suc n + k) d))
-        → elim b [ true ↦ some (boundColumn t n c) | false ↦ find p (boundColumnsFrom t (suc n) cs) ] ≡ some r
-        → (k : ℕ) × (d : ColumnSchema) × StandsAt d k (c ∷ cs) × (r ≡ boundColumn t (n + k) d)
+    go : (b : Bool) → (find p (boundColumnsFrom t (suc n) cs) ≡ some r → BoundFrom t (suc n) cs r)
+        → elim b [ true ↦ some (boundColumn t n c) | false ↦ find p (boundColumnsFrom t (suc n) cs) ] ≡ some r → BoundFrom t n (c ∷ cs) r
     go true below e = (0, c, here, cc (add-zero n))
     go false below e = let w = below e in (suc (w .0), w .1, behind (w .2), rw (add-suc, ← suc-add) (w .3))
 
--- the column of a table that a bound column stands for, with its position
+-- the column of the table that a bound column stands for, and its position
 pub record ColumnOf (t : TableSchema) (r : BoundColumnRef) : Type 0 where
   pub position : ℕ
   pub column : ColumnSchema
@@ -267,7 +274,7 @@ pub record ColumnOf (t : TableSchema) (r : BoundColumnRef) : Type 0 where
 pub column-of : {t : TableSchema} {r : BoundColumnRef} (name : Text) → columnByName t name ≡ some r → ColumnOf t r
 unfolding columnByName boundColumns
 column-of {t} {r} name h =
-    let w = found-stands t (refNamed name) 0 (t .columns) r h in
+    let w = found-bound t (refNamed name) 0 (t .columns) r h in
     record { position = w .0; column = w .1; stands = w .2; bound = rw zero-add at (w .3) }
 
 same-type : (a b : DataType) → (sameType a b ≡ true) ↔ (expressionType a ≡ expressionType b)
@@ -282,7 +289,8 @@ same-type data-type.Bool data-type.Text = (λ h. cc, λ e. cc)
 same-type data-type.Bool data-type.Bool = (λ h. refl, λ e. refl)
 
 -- A value obeys a column exactly if it has the column's mark.
-pub value-obeys : (t : TableSchema) (n : ℕ) (c : ColumnSchema) (v : Value) → (valueObeys c v ≡ true) ↔ HasMark (columnMark (boundColumn t n c)) v
+pub value-obeys : (t : TableSchema) (n : ℕ) (c : ColumnSchema) (v : Value)
+    → (valueObeys c v ≡ true) ↔ HasMark (columnMark (boundColumn t n c)) v
 unfolding valueObeys boundColumn
 value-obeys t n c v = (only v, all v)
   where
@@ -318,10 +326,6 @@ module _ (t : TableSchema) (row : Row) (obeys : rowObeys t row ≡ true) where
       let w = column-of name h in
       rw (w .bound) (value-obeys t (w .position) (w .column) _ .0 (stands-value (w .stands) row obeys))
 
-  number-has-mark : (negative : Bool) (s : Text) {m : Mark} → NumberObeys negative s m → FaultsOr (literalValue (integerLiteral negative s)) (HasMark m)
-  number-has-mark negative s p =
-      rw (p .ranged, p .marked) (inr (int (p .value), refl, of-type (an-int (literal-in-range negative s (p .value) (p .ranged)))))
-
   leaf-has-mark : (l : Leaf) {m : Mark} → LeafObeys t l m → FaultsOr (leafValue t row l) (HasMark m)
   unfolding LeafObeys leafValue
   leaf-has-mark (Leaf.name n) p = rw (p .known, p .marked) (inr (_, refl, column-has-mark (canonical n) (p .known)))
@@ -338,6 +342,7 @@ module _ (t : TableSchema) (row : Row) (obeys : rowObeys t row ≡ true) where
   unfolding evaluate
   value-has-mark e w (at-leaf {l = l} p) = leaf-has-mark l p
   value-has-mark e w (at-signed negative s h p) = rw h (number-has-mark negative s p)
-  value-has-mark e w (at-unary {o = o} {a = a} {w = z} h v p) = rw h (and-next (unaryValue o) (value-has-mark a z v) (λ x q. unary-has-mark o p q))
+  value-has-mark e w (at-unary {o = o} {a = a} {w = z} h v p) =
+      rw h (and-next (unaryValue o) (value-has-mark a z v) (λ x q. unary-has-mark o p q))
   value-has-mark e w (at-binary {o = o} {a = a} {b = b} {w = y} {z = z} u v p) =
       and-next _ (value-has-mark a y u) (λ x q. and-next (binaryValue o x) (value-has-mark b z v) (λ x′ q′. binary-has-mark o p q q′))
