@@ -279,11 +279,11 @@ pub fn decode(image: &[u8]) -> Read<Bound> {
     decode_part(Reader::new(image, &log))
 }
 
-/// The value and every field of its image.
-pub fn explain(image: &[u8]) -> Read<(Bound, Vec<Field>)> {
+/// The value, and every field up to its end or to the damage.
+pub fn explain(image: &[u8]) -> (Vec<Field>, Read<Bound>) {
     let log = Log::on();
-    let bound = decode_part(Reader::new(image, &log))?;
-    Ok((bound, log.into_fields()))
+    let value = decode_part(Reader::new(image, &log));
+    (log.into_fields(), value)
 }
 
 const KINDS: [&str; 10] = [

@@ -62,12 +62,14 @@ impl Width {
     }
 }
 
-/// One field that was read: the bytes from `start` to `end`, how deep it lies, and what it says.
+/// One field that was read: the bytes from `start` to `end`, how deep it lies, and what it says. A heading stands over
+/// fields and has no bytes of its own.
 #[derive(Debug, Clone, PartialEq, Eq)]
 pub struct Field {
     pub start: usize,
     pub end: usize,
     pub depth: usize,
+    pub heading: bool,
     pub text: String,
 }
 
@@ -92,8 +94,12 @@ impl Log {
     }
 
     fn add(&self, start: usize, end: usize, text: impl FnOnce() -> String) {
+        self.push(start, end, false, text);
+    }
+
+    fn push(&self, start: usize, end: usize, heading: bool, text: impl FnOnce() -> String) {
         if self.on {
-            let field = Field { start, end, depth: self.depth.get(), text: text() };
+            let field = Field { start, end, depth: self.depth.get(), heading, text: text() };
             self.fields.borrow_mut().push(field);
         }
     }
@@ -219,7 +225,7 @@ impl<'a> Reader<'a> {
             let have = self.rest.len();
             return damage(start, format!("{what}: the lengths add up to {sum}, and {have} bytes stand behind them"));
         }
-        self.log.add(start, self.at, || format!("{what}: {count} parts, of lengths {lengths:?}"));
+        self.log.add(start, self.at, || contents(what, &lengths));
         lengths.iter().map(|length| self.part(*length, what)).collect()
     }
 
@@ -252,7 +258,7 @@ impl<'a> Reader<'a> {
 
     /// Logs a heading for the rest of this part, and what `read` logs one step deeper.
     pub fn inside<T>(&self, heading: impl FnOnce() -> String, read: impl FnOnce() -> Read<T>) -> Read<T> {
-        self.log.add(self.at, self.at + self.rest.len(), heading);
+        self.log.push(self.at, self.at + self.rest.len(), true, heading);
         self.log.depth.set(self.log.depth.get() + 1);
         let result = read();
         self.log.depth.set(self.log.depth.get() - 1);
@@ -276,6 +282,16 @@ impl<'a> Reader<'a> {
     pub fn peek_number(&self, offset: usize, width: usize) -> usize {
         let bytes = &self.rest[offset..offset + width];
         bytes.iter().rev().fold(0, |sum, byte| sum << 8 | usize::from(*byte))
+    }
+}
+
+/// The table of contents of a bundle, for people.
+fn contents(what: &str, lengths: &[usize]) -> String {
+    let listed: Vec<String> = lengths.iter().map(usize::to_string).collect();
+    match lengths {
+        [] => format!("{what}: no parts"),
+        [length] => format!("{what}: 1 part, length {length}"),
+        _ => format!("{what}: {} parts, lengths {}", lengths.len(), listed.join(" ")),
     }
 }
 

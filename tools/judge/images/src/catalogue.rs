@@ -90,11 +90,11 @@ pub fn decode(image: &[u8]) -> Read<Catalogue> {
     decode_part(Reader::new(image, &log))
 }
 
-/// The value and every field of its image.
-pub fn explain(image: &[u8]) -> Read<(Catalogue, Vec<Field>)> {
+/// The value, and every field up to its end or to the damage.
+pub fn explain(image: &[u8]) -> (Vec<Field>, Read<Catalogue>) {
     let log = Log::on();
-    let catalogue = decode_part(Reader::new(image, &log))?;
-    Ok((catalogue, log.into_fields()))
+    let value = decode_part(Reader::new(image, &log));
+    (log.into_fields(), value)
 }
 
 fn decode_part(reader: Reader) -> Read<Catalogue> {

@@ -8,5 +8,7 @@ pub mod limits;
 pub mod random;
 pub mod row;
 pub mod run;
+pub mod show;
 pub mod statement;
+pub mod text;
 pub mod value;

@@ -28,11 +28,11 @@ pub fn decode_of(image: &[u8], table: &Table) -> Read<Row> {
     decode_part(Reader::new(image, &log), Some(table))
 }
 
-/// The value and every field of its image.
-pub fn explain(image: &[u8], table: Option<&Table>) -> Read<(Row, Vec<Field>)> {
+/// The value, and every field up to its end or to the damage.
+pub fn explain(image: &[u8], table: Option<&Table>) -> (Vec<Field>, Read<Row>) {
     let log = Log::on();
-    let row = decode_part(Reader::new(image, &log), table)?;
-    Ok((row, log.into_fields()))
+    let value = decode_part(Reader::new(image, &log), table);
+    (log.into_fields(), value)
 }
 
 fn decode_part(reader: Reader, table: Option<&Table>) -> Read<Row> {

@@ -3,7 +3,7 @@
 //! The number of a node's operands follows from its kind, so the spans follow from the order of the nodes. A value
 //! therefore holds the nodes alone, and the decoder holds the written spans to the ones that must stand there.
 
-use crate::bytes::{NoImage, Read, Reader, Width, Written, damage, push_count};
+use crate::bytes::{Log, NoImage, Read, Reader, Width, Written, damage, push_count};
 
 /// What a run needs to know of its nodes.
 pub trait RunNode: Sized {
@@ -103,8 +103,9 @@ fn read_nodes<N: RunNode>(mut table: Reader, mut contents: Reader) -> Read<(Vec<
             return damage(start + N::HEAD + width, format!("the end {end} lies before the end {last_end} of the node before"));
         }
         let content = contents.part(end - last_end, "content of a node")?;
-        let number = nodes.len();
-        let node = read_node::<N>(head, content, start, table.at(), number, span, end)?;
+        let node = read_node::<N>(head, content, &spans, |operands| {
+            format!("span {span}, end {end}{operands}")
+        })?;
         nodes.push(node);
         spans.push(span);
         last_end = end;
@@ -113,24 +114,35 @@ fn read_nodes<N: RunNode>(mut table: Reader, mut contents: Reader) -> Read<(Vec<
     Ok((nodes, spans))
 }
 
+/// Reads one node. `spans` are those of the nodes before it, and `rest` says what stands behind the head.
 fn read_node<N: RunNode>(
     head: Reader,
     content: Reader,
-    start: usize,
-    end_of_node: usize,
-    number: usize,
-    span: usize,
-    end: usize,
+    spans: &[usize],
+    rest: impl FnOnce(String) -> String,
 ) -> Read<N> {
     // The heading needs the node's name, which is known only once the node is read. So it is read without a log, and
     // its content once more where there is a log.
-    let silent = crate::bytes::Log::off();
+    let silent = Log::off();
+    let number = spans.len();
     let node = N::read(head.with_log(&silent), content.with_log(&silent))?;
-    head.note(start, end_of_node, || format!("node {number}: {}, span {span}, end {end}", node.label()));
+    head.note(head.at(), head.at() + N::HEAD + 2 * N::WIDTH.bytes(), || {
+        format!("node {number}: {}, {}", node.label(), rest(operand_numbers(&node, spans)))
+    });
     if content.logs() && !content.is_empty() {
         content.inside(|| format!("content of node {number}"), || N::read(head.with_log(&silent), content))?;
     }
     Ok(node)
+}
+
+fn operand_numbers<N: RunNode>(node: &N, spans: &[usize]) -> String {
+    let last = spans.len().checked_sub(1);
+    let left = last.and_then(|last| last.checked_sub(spans[last]));
+    match (node.operands(), left, last) {
+        (1, _, Some(last)) => format!(", operand {last}"),
+        (2, Some(left), Some(right)) => format!(", operands {left} and {right}"),
+        _ => String::new(),
+    }
 }
 
 fn check_spans<N: RunNode>(nodes: &[N], written: &[usize], table_at: usize, size: usize) -> Read<()> {

@@ -586,11 +586,11 @@ pub fn decode(image: &[u8]) -> Read<Statement> {
     decode_part(Reader::new(image, &log))
 }
 
-/// The value and every field of its image.
-pub fn explain(image: &[u8]) -> Read<(Statement, Vec<Field>)> {
+/// The value, and every field up to its end or to the damage.
+pub fn explain(image: &[u8]) -> (Vec<Field>, Read<Statement>) {
     let log = Log::on();
-    let statement = decode_part(Reader::new(image, &log))?;
-    Ok((statement, log.into_fields()))
+    let value = decode_part(Reader::new(image, &log));
+    (log.into_fields(), value)
 }
 
 fn decode_part(reader: Reader) -> Read<Statement> {

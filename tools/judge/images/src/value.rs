@@ -115,7 +115,7 @@ impl Value {
         let value = match reader.code("type", &TYPE_NAMES)? {
             0 => Value::Int(reader.signed("value")?),
             1 => Value::Text(reader.text("value")?),
-            2 => Value::Bool(reader.mark("value")?),
+            2 => Value::Bool(reader.code("value", &["FALSE", "TRUE"])? == 1),
             _ => Value::Null,
         };
         reader.finish("value")?;

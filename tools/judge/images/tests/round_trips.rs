@@ -59,10 +59,11 @@ fn explained_fields_cover_the_image() {
     for index in 0..3_000 {
         let mut rng = Rng::of_case(2, index);
         let image = any_statement(&mut rng).encode().unwrap();
-        let (value, fields) = statement::explain(&image).unwrap();
-        assert_eq!(Ok(value), statement::decode(&image));
+        let (fields, value) = statement::explain(&image);
+        assert_eq!(value, statement::decode(&image));
         let mut covered = vec![false; image.len()];
-        for field in fields {
+        for field in fields.into_iter().filter(|field| !field.heading) {
+            assert!(!covered[field.start..field.end].contains(&true), "{} is explained twice", field.text);
             covered[field.start..field.end].fill(true);
         }
         assert!(covered.into_iter().all(|byte| byte), "a byte of {image:?} is not explained");

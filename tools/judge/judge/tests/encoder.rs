@@ -1,7 +1,6 @@
 //! The encoder from the Rust's own values against the plain values' encoder: whichever field stands behind a mark, the
 //! image is the same.
 
-use images::bound::{Bound, ColumnRef};
 use images::random::{Rng, any_bound, any_catalogue, any_statement};
 use judge::decode::{self, Choice};
 use judge::encode::{encode_bound, encode_catalogue, encode_statement};
@@ -32,19 +31,4 @@ fn bound_statements_through_the_originals_types() {
         let bound = decode::bound(&value).expect("ordinals have 64 bits here");
         assert_eq!(encode_bound(&bound), value.encode(), "{value:?}");
     }
-}
-
-#[test]
-fn the_ordinal_is_no_id() {
-    let column = ColumnRef {
-        table_id: 7,
-        column_id: 9,
-        ordinal: 1,
-        data_type: images::value::ColumnType::Int,
-        nullable: false,
-        name: "minutes".to_string(),
-    };
-    let table = images::bound::TableRef { id: 7, version: 3, name: "runs".to_string() };
-    let value = Bound::Select { table, projection: vec![column], filter: None };
-    assert_eq!(encode_bound(&decode::bound(&value).unwrap()), value.encode());
 }
