@@ -40,12 +40,16 @@ pub record Parts (A : Type 0) : Type 1 where
   pub back : (l : List (List ℕ)) (a : A) → Every Bytes l → join l ≡ some a → (l ≡ split a) × Ok a
   pub bytes : (a : A) → Ok a → Every Bytes (split a)
 
--- a value as a code below `count` and what follows it: `form i` is what follows the code i
+-- a value as a code below `count` and what follows it; what follows is read by the code
 pub record Coded (T : Type 0) : Type 1 where
   pub count : ℕ
   pub code : T → ℕ
-  pub form : ℕ → Format T
-  pub coded : (i : ℕ) (t : T) → form i .Ok t → (code t ≡ i) × (i < count)
+  pub write : T → List ℕ
+  pub read : ℕ → List ℕ → Option T
+  pub Ok : T → Type 0
+  pub there : (t : T) → Ok t → read (code t) (write t) ≡ some t
+  pub back : (i : ℕ) (s : List ℕ) (t : T) → Bytes s → read i s ≡ some t → (i ≡ code t) × (s ≡ write t) × Ok t
+  pub bytes : (t : T) → Ok t → (code t < count) × Bytes (write t)
 
 -- i, i + 1 .., n numbers
 abbrev pub countFrom : ℕ → ℕ → List ℕ
