@@ -77,7 +77,7 @@ made-which (Truth b) = refl
 made-which Null = refl
 
 abbrev value : Format Value
-value = choice (sum values which made-which ((λ z. refl), ((λ s. refl), ((λ b. refl), ((λ u. refl), tt))))) refl
+value = choice (sum values which made-which refl) refl
 
 minus-two : value .write (Int (negsuc 1)) ≡ 0 ∷ 254 ∷ 255 ∷ 255 ∷ 255 ∷ 255 ∷ 255 ∷ 255 ∷ 255 ∷ []
 minus-two = refl
@@ -136,7 +136,7 @@ ops = record { all = plus ∷ minus ∷ []; index = place; found = found-op; ord
 
 -- kinds 0 to 2 are leaves, 3 and 4 have one operand, 5 and 6 two
 abbrev leafCodes : Coded Leaf
-leafCodes = sum leafs leaf? made-leaf ((λ s. refl), ((λ s. refl), ((λ u. refl), tt)))
+leafCodes = sum leafs leaf? made-leaf refl
 
 abbrev expression : Format (Tree Leaf Op Op)
 expression = run 2 (labels leafCodes (kinds ops) (kinds ops) refl)

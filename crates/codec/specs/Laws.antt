@@ -21,7 +21,7 @@ use Rattle.wire.specs.Le.{Bytes, le, num, length-le, num-le, le-num, num-lt, dr
 use Rattle.utf8.specs.Utf8.{In, Two, Three, Three.e0, Three.e1-ec, Three.ed, Three.ee-ef, Four, Four.f0, Four.f1-f3, Four.f4, Utf8, Utf8.none, Utf8.one, Utf8.two, Utf8.three, Utf8.four}
 use Rattle.utf8.specs.Decide.{isUtf8, utf8-of}
 use Rattle.codec.specs.Format.{Format, Fixed, Parts, Coded, Every, Enum, countFrom}
-use Rattle.codec.specs.Ways.{next, joined, rawRead, numberRead, nothingRead, codeRead, boolIndex, headedWrite, headedRead, HeadedOk, rowRead, cutRead, optionalWrite, optionalRead, OptionalOk, endJoin, andJoin, eachJoin, choiceRead, kindRead, eitherCode, eitherWrite, eitherRead, EitherOk, Case, Some, Each, someCode, someWrite, someRead, SomeOk}
+use Rattle.codec.specs.Ways.{next, joined, rawRead, numberRead, nothingRead, codeRead, boolIndex, headedWrite, headedRead, HeadedOk, rowRead, cutRead, optionalWrite, optionalRead, OptionalOk, endJoin, andJoin, eachJoin, choiceRead, kindRead, eitherCode, eitherWrite, eitherRead, EitherOk, Case, Some, Spread, spread, someCode, someWrite, someRead, SomeOk}
 
 -- ---- what a step that succeeded tells
 
@@ -413,10 +413,10 @@ module _ {A B : Type 0} (c : Coded A) (d : Coded B) where
 -- ---- cases
 
 module _ {T : Type 0} where
-  pub each-one : (l : List (Case T)) (P : Some l → Type 0) → Each l P → (x : Some l) → P x
-  each-one [] P h x = absurd x
-  each-one (c ∷ l) P h (inl x) = h .0 x
-  each-one (c ∷ l) P h (inr y) = each-one l (λ z. P (inr z)) (h .1) y
+  pub spread-one : {X : Type 0} (l : List (Case T)) (f g : Some l → X) → spread l f ≡ spread l g → (x : Some l) → f x ≡ g x
+  spread-one [] f g e x = absurd x
+  spread-one {X} (c ∷ l) f g e (inl x) = ap (λ (p : Spread (c ∷ l) X). p .0 x) e
+  spread-one {X} (c ∷ l) f g e (inr y) = spread-one l (λ z. f (inr z)) (λ z. g (inr z)) (ap (λ (p : Spread (c ∷ l) X). p .1) e) y
 
   pub some-there : (l : List (Case T)) (x : Some l) → SomeOk l x → someRead l (someCode l x) (someWrite l x) ≡ some x
   some-there [] x h = absurd x

@@ -130,6 +130,12 @@ module _ {A B : Type 0} (c : Fixed A) (f : A → Option B) (g : B → A) (Ok′ 
   abbrev pub refineField : Fixed B
   refineField = record { width = c .width; form = refine (c .form) f g Ok′ fg ok gf; wide = λ b h. c .wide (g b) (ok b h) }
 
+abbrev pub checkedField : {A : Type 0} → Fixed A → (A → Bool) → Fixed A
+checkedField c test = record { width = c .width; form = checked (c .form) test; wide = λ a h. c .wide a (h .0) }
+
+abbrev pub viaField : {A B : Type 0} (c : Fixed A) (f : A → B) (g : B → A) → ((b : B) → f (g b) ≡ b) → ((a : A) → c .form .Ok a → g (f a) ≡ a) → Fixed B
+viaField c f g fg gf = record { width = c .width; form = via (c .form) f g fg gf; wide = λ b h. c .wide (g b) h }
+
 -- a signed number of 8 bytes, two's complement
 abbrev pub int64 : Fixed ℤ
 int64 = refineField (number 8) (λ n. some (toZ w64 n)) (ofZ w64) (λ z. mag z < 2 ^ 63)

@@ -278,9 +278,11 @@ module _ {L U B : Type 0} (w : ℕ) (lb : Labels (Label L U B)) where
       next-some (labelsOf (lb .form) l) treeOf e (λ m e₁ g.
       let p = labels-back (lb .form) (lb .head) w l m (h .2) e₁ in
       let q : m ≡ nodesOf t = tree-back m t g in
-      let r : l ≡ runWrite w lb t = p .0 ∙ ap (imagesOf (lb .form)) q in
-      (r, (
-        omega (arith, run-length t, ap length r, h .0),
-        omega (arith, content-total (lb .head) (lb .form) t, ap (contentTotal (lb .head)) r, h .1),
-        every-holds (lb .form .Ok) t (rw q at (p .1)),
-      )))
+      let r : l ≡ runWrite w lb t = p .0 ∙ ap (imagesOf (lb .form)) q in (
+        r,
+        (
+          omega (arith, run-length t, ap length r, h .0),
+          omega (arith, content-total (lb .head) (lb .form) t, ap (contentTotal (lb .head)) r, h .1),
+          every-holds (lb .form .Ok) t (rw q at (p .1)),
+        ),
+      ))

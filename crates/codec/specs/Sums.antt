@@ -1,8 +1,8 @@
 -- Codes: one byte that says which case of a type follows. A data type gets its format so:
 --     cases : List (Case T)                     a case for each constructor, in the order of the codes: case text Name ∷ case nothing (λ u. Other) ∷ []
 --     which : T → Some cases                    which case a value is: which (Name s) = nth cases 0 s
---     choice (sum cases which p q) refl : Format T
--- where p : (t : T) → made cases (which t) ≡ t is a `refl` for each constructor, and q a tuple of one `λ x. refl` for each case, with `tt` at its end.
+--     made-which : (t : T) → made cases (which t) ≡ t        a `refl` for each constructor
+--     choice (sum cases which made-which refl) refl : Format T
 -- Assumes nothing.
 use mathlib.Core.Path.{_≡_}
 use mathlib.Core.Bool.{Bool, true}
@@ -15,7 +15,7 @@ use lib.Dec.{leb}
 use Rattle.codec.specs.Format.{Format, Fixed, Coded, Enum}
 use Rattle.codec.specs.Ways as W
 use Rattle.codec.specs.Laws as L
-pub use Rattle.codec.specs.Ways.{Case, Some, nth, made, Each}
+pub use Rattle.codec.specs.Ways.{Case, Some, nth, made, spread}
 
 -- one byte, the code, and what follows it
 abbrev pub choice : {T : Type 0} (c : Coded T) → leb (c .count) 256 ≡ true → Format T
@@ -98,5 +98,5 @@ someOf l = record {
   bytes = L.some-bytes l;
 }
 
-abbrev pub sum : {T : Type 0} (l : List (Case T)) (which : T → Some l) → ((t : T) → made l (which t) ≡ t) → Each l (λ x. which (made l x) ≡ x) → Coded T
-sum l which mw wm = recode (someOf l) (made l) which mw (L.each-one l (λ x. which (made l x) ≡ x) wm)
+abbrev pub sum : {T : Type 0} (l : List (Case T)) (which : T → Some l) → ((t : T) → made l (which t) ≡ t) → spread l (λ x. which (made l x)) ≡ spread l (λ x. x) → Coded T
+sum l which mw wm = recode (someOf l) (made l) which mw (L.spread-one l (λ x. which (made l x)) (λ x. x) wm)

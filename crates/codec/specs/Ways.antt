@@ -154,10 +154,14 @@ module _ {T : Type 0} where
   made (c ∷ l) (inl x) = c .make x
   made (c ∷ l) (inr y) = made l y
 
-  -- P of each content, as a tuple with one function for each case
-  abbrev pub Each : (l : List (Case T)) → (Some l → Type 0) → Type 0
-  Each [] P = Unit {0}
-  Each (c ∷ l) P = ((x : c .Content) → P (inl x)) × Each l (λ y. P (inr y))
+  -- a function on contents as one function for each case: two that are equal are told so by `refl`
+  abbrev pub Spread : List (Case T) → Type 0 → Type 0
+  Spread [] X = Unit {0}
+  Spread (c ∷ l) X = (c .Content → X) × Spread l X
+
+  abbrev pub spread : {X : Type 0} (l : List (Case T)) → (Some l → X) → Spread l X
+  spread [] f = tt
+  spread (c ∷ l) f = ((λ x. f (inl x)), spread l (λ y. f (inr y)))
 
   abbrev pub someCode : (l : List (Case T)) → Some l → ℕ
   someCode [] x = absurd x
