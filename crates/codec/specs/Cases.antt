@@ -5,12 +5,12 @@ use mathlib.Core.Bool.{Bool, true, false}
 use mathlib.Core.Option.{Option, none, some}
 use mathlib.Core.List.{List, [], _∷_}
 use Prim.Native.Nat.{ℕ}
-use lib.IntN.{ℤ, pos, negsuc}
+use lib.IntN.{ℤ, negsuc}
 use Rattle.utf8.specs.Decide.{isUtf8}
 use lib.ListN.{getElem?}
 use Rattle.tree.specs.Tree.{Tree, Tree.leaf, Tree.un, Tree.bin, size}
 use Rattle.codec.specs.Format.{Format, Enum, Coded}
-use Rattle.codec.specs.Layout.{text, nothing, number, mark, alone, int64, headed, both, optional, end, _and_, listOf, recordOf}
+use Rattle.codec.specs.Layout.{text, nothing, number, mark, alone, int64, optional, end, _and_, listOf, recordOf, via}
 use Rattle.codec.specs.Sums.{Case, case, Some, nth, made, sum, choice, kinds}
 use Rattle.codec.specs.Run.{run, labels, labelsWith}
 
@@ -52,6 +52,15 @@ a-mark-of-2 = refl
 two-parts-of-three : entry .read (2 ∷ 0 ∷ 4 ∷ 0 ∷ 1 ∷ 0 ∷ 7 ∷ 1 ∷ 0 ∷ 0 ∷ 1 ∷ []) ≡ none
 unfolding isUtf8
 two-parts-of-three = refl
+
+-- the same as a declared record
+record Entry : Type 0 where
+  id : ℕ
+  open? : Bool
+  name : List ℕ
+
+abbrev entries : Format (List Entry)
+entries = listOf 2 (via entry (λ p. record { id = p .0; open? = p .1 .0; name = p .1 .1 .0 }) (λ e. (e .id, (e .open?, (e .name, tt)))) (λ e. refl) (λ p h. refl))
 
 -- ---- a sum
 
@@ -140,6 +149,10 @@ leafCodes = sum leafs leaf? made-leaf refl
 
 abbrev expression : Format (Tree Leaf Op Op)
 expression = run 2 (labels leafCodes (kinds ops) (kinds ops) refl)
+
+-- nothing at all, or an expression
+abbrev condition : Format (Option (Tree Leaf Op Op))
+condition = optional expression refl
 
 -- a + -1
 abbrev sum-of-two : Tree Leaf Op Op

@@ -3,8 +3,8 @@
 -- `Layout.antt` has the formats by name.
 -- Assumes nothing.
 use mathlib.Core.Path.{_≡_, refl, sym, _∙_, ap}
-use mathlib.Core.Bool.{Bool, true}
-use mathlib.Core.Option.{Option, none, some, Option·some-injective}
+use mathlib.Core.Bool.{true}
+use mathlib.Core.Option.{Option, none, some, Option·none-ne-some, Option·some-injective}
 use mathlib.Core.List.{List, [], _∷_, map}
 use Prim.Native.Nat.{ℕ, zero, suc, _<_}
 use lib.ListN.{length, getElem?}
@@ -77,6 +77,9 @@ module _ {A : Type 0} (f : Format A) where
 
   pub read-image : {s : List ℕ} {v : A} → Bytes s → f .read s ≡ some v → Image s v
   read-image {s} {v} b e = let k = f .back s v b e in record { bytes = k .0; ok = k .1 }
+
+  pub no-image : {s : List ℕ} {v : A} → f .read s ≡ none → Image s v → ⊥
+  no-image {v = v} e i = Option·none-ne-some v (sym e ∙ image-read i)
 
   -- one value for each image
   pub unique : {s : List ℕ} {v w : A} → Image s v → Image s w → v ≡ w

@@ -5,10 +5,10 @@ use mathlib.Core.Bool.{Bool, true, false, cond}
 use mathlib.Core.Option.{Option, none, some, Option·none-ne-some, Option·some-injective}
 use mathlib.Core.Logic.{_⊎_, inl, inr}
 use mathlib.Core.List.{List, [], _∷_, _++_, map}
-use Prim.Native.Nat.{ℕ, zero, suc, _+_, _-_, _*_, _^_, _%_, _≤_, _<_}
+use Prim.Native.Nat.{ℕ, zero, suc, _+_, _-_, _*_, _^_, _≤_, _<_}
 use native.Mathlib.Nat.{zero-mul, suc-mul, mod-lt}
 use native.Mathlib.Omega.{arith}
-use lib.ListN.{length, take, drop, getD, getElem?, length-map, length-append, length-drop, take-append-drop}
+use lib.ListN.{length, take, drop, getElem?, length-map, length-append, take-append-drop}
 use lib.Seq.{take-at, drop-at, length-take-le}
 use lib.Dec.{leb, ltb, eqb, lit<}
 use borrow.Author.Tests.{le-leb, leb-true, eq-eqb, eqb-true, lt-ltb, le-ltb, ltb-false}
@@ -18,10 +18,10 @@ use mir.Syntax.{w64}
 use mir.Val.{toZ, ofZ}
 use mir.ValLaws.{toZ-fits, ofZ-toZ}
 use Rattle.wire.specs.Le.{Bytes, le, num, length-le, num-le, le-num, num-lt, drop-bytes, take-bytes, cons-bytes, tail-bytes}
-use Rattle.utf8.specs.Utf8.{In, Two, Three, Three.e0, Three.e1-ec, Three.ed, Three.ee-ef, Four, Four.f0, Four.f1-f3, Four.f4, Utf8, Utf8.none, Utf8.one, Utf8.two, Utf8.three, Utf8.four}
+use Rattle.utf8.specs.Utf8.{Three, Three.e0, Three.e1-ec, Three.ed, Three.ee-ef, Four, Four.f0, Four.f1-f3, Four.f4, Utf8, Utf8.none, Utf8.one, Utf8.two, Utf8.three, Utf8.four}
 use Rattle.utf8.specs.Decide.{isUtf8, utf8-of}
 use Rattle.codec.specs.Format.{Format, Fixed, Parts, Coded, Every, Enum, countFrom}
-use Rattle.codec.specs.Ways.{next, joined, rawRead, numberRead, nothingRead, codeRead, boolIndex, headedWrite, headedRead, HeadedOk, rowRead, cutRead, optionalWrite, optionalRead, OptionalOk, endJoin, andJoin, eachJoin, choiceRead, kindRead, eitherCode, eitherWrite, eitherRead, EitherOk, Case, Some, Spread, spread, someCode, someWrite, someRead, SomeOk}
+use Rattle.codec.specs.Ways.{next, joined, rawRead, numberRead, nothingRead, codeRead, boolIndex, headedWrite, headedRead, HeadedOk, rowWrite, rowRead, cutRead, PiecesOk, optionalWrite, optionalRead, OptionalOk, endJoin, andJoin, eachJoin, choiceRead, kindRead, besideRead, eitherCode, eitherWrite, eitherRead, EitherOk, Case, Some, Spread, spread, someCode, someWrite, someRead, SomeOk}
 
 -- ---- what a step that succeeded tells
 
@@ -167,31 +167,28 @@ pub both-wide : {A B : Type 0} (f : Fixed A) (g : Fixed B) (p : A × B) → Head
 both-wide f g p h = length-append (f .form .write (p .0)) (g .form .write (p .1)) ∙ ap₂ (λ (x y : ℕ). x + y) (f .wide (p .0) (h .0)) (g .wide (p .1) (h .1))
 
 module _ {A : Type 0} (f : Fixed A) where
-  abbrev pub rowWrite : List A → List ℕ
-  rowWrite l = joined (map (f .form .write) l)
-
-  pub row-wide : (l : List A) → Every (f .form .Ok) l → length (rowWrite l) ≡ length l * f .width
+  pub row-wide : (l : List A) → Every (f .form .Ok) l → length (rowWrite f l) ≡ length l * f .width
   row-wide [] h = sym (zero-mul (f .width))
-  row-wide (a ∷ l) h = omega (arith, length-append (f .form .write a) (rowWrite l), f .wide a (h .0), row-wide l (h .1), suc-mul (length l) (f .width))
+  row-wide (a ∷ l) h = omega (arith, length-append (f .form .write a) (rowWrite f l), f .wide a (h .0), row-wide l (h .1), suc-mul (length l) (f .width))
 
-  pub row-there : (l : List A) → Every (f .form .Ok) l → rowRead f (length l) (rowWrite l) ≡ some l
+  pub row-there : (l : List A) → Every (f .form .Ok) l → rowRead f (length l) (rowWrite f l) ≡ some l
   row-there [] h = refl
   row-there (a ∷ l) h =
       let w : length (f .form .write a) ≡ f .width = f .wide a (h .0) in
-      rw (take-at (f .form .write a) (rowWrite l) (f .width) w, drop-at (f .form .write a) (rowWrite l) (f .width) w, f .form .there a (h .0), row-there l (h .1))
+      rw (take-at (f .form .write a) (rowWrite f l) (f .width) w, drop-at (f .form .write a) (rowWrite f l) (f .width) w, f .form .there a (h .0), row-there l (h .1))
 
-  pub row-back : (n : ℕ) (s : List ℕ) (l : List A) → Bytes s → rowRead f n s ≡ some l → (s ≡ rowWrite l) × ((length l ≡ n) × Every (f .form .Ok) l)
-  row-back zero [] l b e = subst (λ (z : List A). ([] ≡ rowWrite z) × ((length z ≡ zero) × Every (f .form .Ok) z)) (Option·some-injective [] l e) (refl, (refl, tt))
+  pub row-back : (n : ℕ) (s : List ℕ) (l : List A) → Bytes s → rowRead f n s ≡ some l → (s ≡ rowWrite f l) × ((length l ≡ n) × Every (f .form .Ok) l)
+  row-back zero [] l b e = subst (λ (z : List A). ([] ≡ rowWrite f z) × ((length z ≡ zero) × Every (f .form .Ok) z)) (Option·some-injective [] l e) (refl, (refl, tt))
   row-back zero (x ∷ s) l b e = absurd (Option·none-ne-some l e)
   row-back (suc n) s l b e =
       next-some (f .form .read (take (f .width) s)) (λ a. next (rowRead f n (drop (f .width) s)) (λ m. some (a ∷ m))) e
       (λ a e₁ h. next-some (rowRead f n (drop (f .width) s)) (λ m. some (a ∷ m)) h (λ m e₂ k.
       let p = header-front f s a b e₁ in
       let q = row-back n (drop (f .width) s) m (drop-bytes (f .width) b) e₂ in
-      subst (λ (z : List A). (s ≡ rowWrite z) × ((length z ≡ suc n) × Every (f .form .Ok) z)) (Option·some-injective (a ∷ m) l k)
+      subst (λ (z : List A). (s ≡ rowWrite f z) × ((length z ≡ suc n) × Every (f .form .Ok) z)) (Option·some-injective (a ∷ m) l k)
       (sym (take-append-drop (f .width) s) ∙ ap₂ (λ (x z : List ℕ). x ++ z) (p .0) (q .0), (ap suc (q .1 .0), (p .1, q .1 .1)))))
 
-  pub row-bytes : (l : List A) → Every (f .form .Ok) l → Bytes (rowWrite l)
+  pub row-bytes : (l : List A) → Every (f .form .Ok) l → Bytes (rowWrite f l)
   row-bytes [] h = nil-bytes
   row-bytes (a ∷ l) h = append-bytes (f .form .bytes a (h .0)) (row-bytes l (h .1))
 
@@ -312,20 +309,17 @@ fit-lengths w (s ∷ l) h = (h .0, fit-lengths w l (h .1))
 -- ---- bundles
 
 module _ (w : ℕ) where
-  abbrev pub PiecesOk : List (List ℕ) → Type 0
-  PiecesOk l = (length l < 256 ^ w) × Every (λ s. length s < 256 ^ w) l × Every Bytes l
-
   -- a count, as many lengths, as many pieces
   pub pieces-back : (p : ℕ × (List ℕ × List (List ℕ))) (l : List (List ℕ))
       → (p .0 < 256 ^ w) × (((length (p .1 .0) ≡ p .0) × Every (λ n. n < 256 ^ w) (p .1 .0)) × ((map length (p .1 .1) ≡ p .1 .0) × Every Bytes (p .1 .1)))
-      → some (p .1 .1) ≡ some l → (p ≡ (length l, (map length l, l))) × PiecesOk l
+      → some (p .1 .1) ≡ some l → (p ≡ (length l, (map length l, l))) × PiecesOk w l
   pieces-back p l h e =
-      subst (λ (z : List (List ℕ)). (p ≡ (length z, (map length z, z))) × PiecesOk z) (Option·some-injective (p .1 .1) l e)
+      subst (λ (z : List (List ℕ)). (p ≡ (length z, (map length z, z))) × PiecesOk w z) (Option·some-injective (p .1 .1) l e)
       (let a : map length (p .1 .1) ≡ p .1 .0 = h .1 .1 .0 in
       let n : p .0 ≡ length (p .1 .1) = sym (h .1 .0 .0) ∙ ap length (sym a) ∙ length-map (p .1 .1) length in
       (ap₂ (λ (x : ℕ) (y : List ℕ). (x, (y, p .1 .1))) n (sym a), (rw (← n) (h .0), fit-lengths w (p .1 .1) (rw a (h .1 .0 .1)), h .1 .1 .1)))
 
-  pub bundle-back : {A : Type 0} (p : Parts A) (l : List (List ℕ)) (a : A) → PiecesOk l → p .join l ≡ some a
+  pub bundle-back : {A : Type 0} (p : Parts A) (l : List (List ℕ)) (a : A) → PiecesOk w l → p .join l ≡ some a
       → (l ≡ p .split a) × ((length (p .split a) < 256 ^ w) × Every (λ s. length s < 256 ^ w) (p .split a) × p .Ok a)
   bundle-back p l a h e =
       let k = p .back l a (h .2) e in
@@ -361,14 +355,11 @@ after c i = record {
 }
 
 module _ {A T : Type 0} (f : Fixed A) (c : Coded T) where
-  abbrev pub besideRead : ℕ → List ℕ → Option (A × T)
-  besideRead i s = next (f .form .read (take (f .width) s)) (λ a. next (c .read i (drop (f .width) s)) (λ t. some (a, t)))
-
-  pub beside-there : (p : A × T) → f .form .Ok (p .0) × c .Ok (p .1) → besideRead (c .code (p .1)) (f .form .write (p .0) ++ c .write (p .1)) ≡ some p
+  pub beside-there : (p : A × T) → f .form .Ok (p .0) × c .Ok (p .1) → besideRead f c (c .code (p .1)) (f .form .write (p .0) ++ c .write (p .1)) ≡ some p
   unfolding after
   beside-there p h = headed-there f (λ a. after c (c .code (p .1))) p (h .0, (refl, h .1))
 
-  pub beside-back : (i : ℕ) (s : List ℕ) (p : A × T) → Bytes s → besideRead i s ≡ some p → (i ≡ c .code (p .1)) × (s ≡ f .form .write (p .0) ++ c .write (p .1)) × (f .form .Ok (p .0) × c .Ok (p .1))
+  pub beside-back : (i : ℕ) (s : List ℕ) (p : A × T) → Bytes s → besideRead f c i s ≡ some p → (i ≡ c .code (p .1)) × (s ≡ f .form .write (p .0) ++ c .write (p .1)) × (f .form .Ok (p .0) × c .Ok (p .1))
   unfolding after
   beside-back i s p b e = let k = headed-back f (λ a. after c i) s p b e in (k .1 .1 .0, k .0, (k .1 .0, k .1 .1 .1))
 

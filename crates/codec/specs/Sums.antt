@@ -5,11 +5,11 @@
 --     choice (sum cases which made-which refl) refl : Format T
 -- Assumes nothing.
 use mathlib.Core.Path.{_≡_}
-use mathlib.Core.Bool.{Bool, true}
+use mathlib.Core.Bool.{true}
 use mathlib.Core.Option.{some}
 use mathlib.Core.Logic.{_⊎_}
 use mathlib.Core.List.{List, [], _∷_, _++_}
-use Prim.Native.Nat.{ℕ, _+_}
+use Prim.Native.Nat.{_+_}
 use lib.ListN.{length}
 use lib.Dec.{leb}
 use Rattle.codec.specs.Format.{Format, Fixed, Coded, Enum}
@@ -47,7 +47,7 @@ beside f c = record {
   count = c .count;
   code = λ p. c .code (p .1);
   write = λ p. f .form .write (p .0) ++ c .write (p .1);
-  read = L.besideRead f c;
+  read = W.besideRead f c;
   Ok = λ p. f .form .Ok (p .0) × c .Ok (p .1);
   there = L.beside-there f c;
   back = L.beside-back f c;

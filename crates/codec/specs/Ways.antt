@@ -1,14 +1,13 @@
 -- How each format of `Layout.antt` writes and reads, where that takes more than a line.
 -- Assumes nothing: these are definitions.
-use mathlib.Core.Path.{_≡_}
 use mathlib.Core.Bool.{Bool, true, false, cond}
 use mathlib.Core.Option.{Option, none, some}
 use mathlib.Core.Logic.{_⊎_, inl, inr}
 use mathlib.Core.List.{List, [], _∷_, _++_, map}
-use Prim.Native.Nat.{ℕ, zero, suc, _+_, _-_}
+use Prim.Native.Nat.{ℕ, zero, suc, _+_, _-_, _^_, _<_}
 use lib.ListN.{length, take, drop, getElem?}
 use lib.Dec.{leb, ltb, eqb}
-use Rattle.wire.specs.Le.{Bytes, le, num}
+use Rattle.wire.specs.Le.{Bytes, num}
 use Rattle.codec.specs.Format.{Format, Fixed, Parts, Coded, Every, Enum}
 
 -- a step, and the next where the first succeeded
@@ -56,6 +55,9 @@ module _ {A : Type 0} {B : A → Type 0} (f : Fixed A) (g : (a : A) → Format (
   HeadedOk p = f .form .Ok (p .0) × g (p .0) .Ok (p .1)
 
 -- n fields of one kind
+abbrev pub rowWrite : {A : Type 0} → Fixed A → List A → List ℕ
+rowWrite f l = joined (map (f .form .write) l)
+
 abbrev pub rowRead : {A : Type 0} → Fixed A → ℕ → List ℕ → Option (List A)
 rowRead f zero [] = some []
 rowRead f zero (b ∷ s) = none
@@ -66,6 +68,10 @@ abbrev pub cutRead : List ℕ → List ℕ → Option (List (List ℕ))
 cutRead [] [] = some []
 cutRead [] (b ∷ s) = none
 cutRead (n ∷ ns) s = cond (leb n (length s)) (next (cutRead ns (drop n s)) (λ l. some (take n s ∷ l))) none
+
+-- a count of w bytes holds the number of pieces, and one the length of each
+abbrev pub PiecesOk : ℕ → List (List ℕ) → Type 0
+PiecesOk w l = (length l < 256 ^ w) × Every (λ s. length s < 256 ^ w) l × Every Bytes l
 
 -- ---- nothing at all, or a value
 
@@ -106,6 +112,9 @@ choiceRead c (i ∷ s) = c .read i s
 abbrev pub kindRead : {A : Type 0} → Enum A → ℕ → List ℕ → Option A
 kindRead e i [] = getElem? (e .all) i
 kindRead e i (b ∷ s) = none
+
+abbrev pub besideRead : {A T : Type 0} → Fixed A → Coded T → ℕ → List ℕ → Option (A × T)
+besideRead f c i s = next (f .form .read (take (f .width) s)) (λ a. next (c .read i (drop (f .width) s)) (λ t. some (a, t)))
 
 -- the codes of A, and behind them those of B
 module _ {A B : Type 0} (c : Coded A) (d : Coded B) where
