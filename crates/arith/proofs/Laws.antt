@@ -6,15 +6,14 @@ use mathlib.Core.Option.{Option, none}
 use Prim.Native.Nat.{ℕ, zero, suc, _+_, _-_, _*_, _/_, _%_, _^_, _≤_, _<_, zero-le}
 use native.Mathlib.Nat.{add-zero, sub-zero, zero-add, mul-zero}
 use native.Mathlib.Omega.{arith}
-use lib.Dec.{T, ltb}
-use lib.IntN.{ℤ, pos, negsuc, negℤ, natAbs, subℕ, _+ℤ_, _-ℤ_, _*ℤ_, negℤ-+ℤ, negℤ-negℤ, +ℤ-comm}
+use lib.Dec.{T}
+use lib.IntN.{ℤ, pos, negsuc, negℤ, natAbs, _+ℤ_, _-ℤ_, _*ℤ_, negℤ-+ℤ, negℤ-negℤ, +ℤ-comm}
 use lib.Signed.{mag, quotZ, remZ, ltZ}
 use mir.Syntax.{w64}
 use mir.Val.{SFits, toZ, ofZ}
 use mir.Facts.{toZ-ofZ, toZ-pos, toZ-neg}
 use borrow.Author.Tests.{lt-ltb, le-ltb}
 use Rattle.rules.specs.Numbers.{signed, ranged, quotient, remainder}
-use Rattle.arith.specs.declared.Exact.{Exact}
 use Rattle.arith.specs.declared.Exact.the-variants.{Value, Fault}
 use Rattle.arith.specs.Exact.{isNeg, toldExact, exact}
 
@@ -79,10 +78,13 @@ in-pos n h = simp (lt-ltb n (2 ^ 63) h)
 pub in-neg : (n : ℕ) → n < 2 ^ 63 → Value (negsuc n) ≡ exact (negsuc n)
 in-neg n h = simp (lt-ltb n (2 ^ 63) h)
 
+pub beyond : (s : Bool) (n : ℕ) → 2 ^ 63 < n → none ≡ ranged (signed s n)
+beyond true zero h = absurd (omega arith)
+beyond true (suc n) h = simp (le-ltb n (2 ^ 63) (omega arith))
+beyond false n h = simp (le-ltb n (2 ^ 63) (omega arith))
+
 pub past : (s : Bool) (n : ℕ) → 2 ^ 63 < n → Fault ≡ exact (signed s n)
-past true zero h = absurd (omega arith)
-past true (suc n) h = simp (le-ltb n (2 ^ 63) (omega arith))
-past false n h = simp (le-ltb n (2 ^ 63) (omega arith))
+past s n h = ap toldExact (beyond s n h)
 
 pub past-pos : (n : ℕ) → 2 ^ 63 ≤ n → Fault ≡ exact (pos n)
 past-pos n h = simp (le-ltb n (2 ^ 63) h)
