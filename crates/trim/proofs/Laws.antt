@@ -2,7 +2,7 @@
 -- Assumes nothing.
 use mathlib.Core.Path.{_≡_, refl, sym}
 use mathlib.Core.Bool.{Bool, true, false, cond, _&&_, _||_, and-false}
-use mathlib.Core.List.{List, [], map}
+use mathlib.Core.List.{List, map}
 use Prim.Native.Nat.{ℕ, zero, suc, _+_, _-_, _≤_, _<_, zero-le}
 use native.Mathlib.Nat.{le-refl}
 use native.Mathlib.Numerals.{add-one}
@@ -10,7 +10,7 @@ use native.Mathlib.Omega.{arith}
 use lib.Dec.{leb, ltb, eqb}
 use lib.ListN.{length, getD, take, drop, length-drop, length-take}
 use lib.Seq.{drop-cons, take-all}
-use borrow.Author.Tests.{lt-leb, le-leb, lt-ltb, le-ltb, ltb-false, eq-eqb, ne-eqb}
+use borrow.Author.Tests.{lt-leb, le-leb, lt-ltb, ltb-false, eq-eqb, ne-eqb}
 use Rattle.rules.specs.Lists.{Text}
 use Rattle.rules.specs.Trimmed
 use Rattle.trim.specs.declared.Range.{Range}
@@ -39,44 +39,7 @@ module _ (rs : List Range) (c i : ℕ) (d : Range) (h : i < length rs) where
   pub above : getD rs i d .1 < c → inside (drop (i + 1) rs) c ≡ inside (drop i rs) c
   above a = rw at (simp (lt-leb _ _ a, and-false))
 
--- ---- widths, in the order of the tests
-
-module _ (n : ℕ) (p q r : Bool) where
-  pub width-0 : n < 1 → 0 ≡ width n p q r
-  unfolding width
-  width-0 h = simp (lt-ltb n 1 h)
-
-  pub width-1 : 1 ≤ n → p ≡ true → 1 ≡ width n p q r
-  unfolding width
-  width-1 h e = simp (le-ltb n 1 h, e)
-
-  pub width-2 : 1 ≤ n → p ≡ false → n < 2 → 0 ≡ width n p q r
-  unfolding width
-  width-2 h e k = simp (le-ltb n 1 h, e, lt-ltb n 2 k)
-
-  pub width-3 : 2 ≤ n → p ≡ false → q ≡ true → 2 ≡ width n p q r
-  unfolding width
-  width-3 h e f = let a : 1 ≤ n = omega arith in simp (le-ltb n 1 a, e, le-ltb n 2 h, f)
-
-  pub width-4 : 2 ≤ n → p ≡ false → q ≡ false → n < 3 → 0 ≡ width n p q r
-  unfolding width
-  width-4 h e f k = let a : 1 ≤ n = omega arith in simp (le-ltb n 1 a, e, le-ltb n 2 h, f, lt-ltb n 3 k)
-
-  pub width-5 : 3 ≤ n → p ≡ false → q ≡ false → r ≡ true → 3 ≡ width n p q r
-  unfolding width
-  width-5 h e f g =
-      let a : 1 ≤ n = omega arith in
-      let b : 2 ≤ n = omega arith in
-      simp (le-ltb n 1 a, e, le-ltb n 2 b, f, le-ltb n 3 h, g)
-
-  pub width-6 : 3 ≤ n → p ≡ false → q ≡ false → r ≡ false → 0 ≡ width n p q r
-  unfolding width
-  width-6 h e f g =
-      let a : 1 ≤ n = omega arith in
-      let b : 2 ≤ n = omega arith in
-      simp (le-ltb n 1 a, e, le-ltb n 2 b, f, le-ltb n 3 h, g)
-
--- there are as many bytes as the width says
+-- ---- widths: there are as many bytes as the width says
 pub width-le : (n : ℕ) (p q r : Bool) → width n p q r ≤ n
 unfolding width
 width-le n p q r = first (ltb n 1) (ltb n 2) (ltb n 3) p q r (ltb-false n 1) (ltb-false n 2) (ltb-false n 3)

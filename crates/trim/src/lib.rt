@@ -1,7 +1,8 @@
 // White space at both ends of UTF-8 text, by a table of ranges of code points, and the statement that the text alone tells. What is
 // left of a text is a part of the text that was lent.
 ghost use mathlib.Core.Path.{_≡_};
-ghost use Rattle.rules.specs.Trimmed.{white, white1, white2, white3, frontWidth, backWidth, trimmedFront, trimmedBack, trimmed};
+ghost use lib.ListN.{getD};
+ghost use Rattle.rules.specs.Trimmed.{white, white1, white2, white3, width, lastBut, frontWidth, backWidth, trimmedFront, trimmedBack, trimmed};
 ghost use Rattle.rules.specs.Trimmed.{withoutSemicolon, dispatched, isShowTransactions};
 
 // From a code point to a code point.
@@ -90,62 +91,67 @@ fn three(a: u8, b: u8, c: u8) -> bool
     is_white((a as u32 - 224) * 4096 + (b as u32 - 128) * 64 + (c as u32 - 128))
 }
 
-// How many bytes the white space at the front takes: 0 where the first code point is none.
-fn front(s: &[u8]) -> usize
-    ensures { λ r. ⌜ r ≡ frontWidth (now (s .entry)) ⌝ }
+// How many of n bytes at an end are white space, by whether the outermost one, two or three are.
+fn width(n: usize, is_one: bool, is_two: bool, is_three: bool) -> usize
+    ensures { λ r. ⌜ r ≡ width n «is_one» «is_two» «is_three» ⌝ }
 {
-    let n = s.len();
     if n < 1 {
         return 0;
     }
-    let a = s[0];
-    if one(a) {
+    if is_one {
         return 1;
     }
     if n < 2 {
         return 0;
     }
-    let b = s[1];
-    if two(a, b) {
+    if is_two {
         return 2;
     }
     if n < 3 {
         return 0;
     }
-    let c = s[2];
-    if three(a, b, c) {
+    if is_three {
         return 3;
     }
     0
 }
 
-// The same at the back: the last code point begins one, two or three bytes before the end.
+// The byte at i, and 0 past the end: `width` does not look at what is made of it there.
+fn byte(s: &[u8], i: usize) -> u8
+    ensures { λ r. ⌜ r ≡ getD (now (s .entry)) i 0 ⌝ }
+{
+    if i < s.len() {
+        return s[i];
+    }
+    0
+}
+
+// The last byte but k - 1, and the first where there are fewer.
+fn last_but(s: &[u8], k: usize) -> u8
+    ensures { λ r. ⌜ r ≡ lastBut k (now (s .entry)) ⌝ }
+{
+    if s.len() < k {
+        return byte(s, 0);
+    }
+    byte(s, s.len() - k)
+}
+
+fn front(s: &[u8]) -> usize
+    ensures { λ r. ⌜ r ≡ frontWidth (now (s .entry)) ⌝ }
+{
+    let a = byte(s, 0);
+    let b = byte(s, 1);
+    let c = byte(s, 2);
+    width(s.len(), one(a), two(a, b), three(a, b, c))
+}
+
 fn back(s: &[u8]) -> usize
     ensures { λ r. ⌜ r ≡ backWidth (now (s .entry)) ⌝ }
 {
-    let n = s.len();
-    if n < 1 {
-        return 0;
-    }
-    let a = s[n - 1];
-    if one(a) {
-        return 1;
-    }
-    if n < 2 {
-        return 0;
-    }
-    let b = s[n - 2];
-    if two(b, a) {
-        return 2;
-    }
-    if n < 3 {
-        return 0;
-    }
-    let c = s[n - 3];
-    if three(c, b, a) {
-        return 3;
-    }
-    0
+    let a = last_but(s, 3);
+    let b = last_but(s, 2);
+    let c = last_but(s, 1);
+    width(s.len(), one(c), two(b, c), three(a, b, c))
 }
 
 pub fn trim_front(s: &[u8]) -> &[u8]
@@ -187,11 +193,11 @@ pub fn trim(s: &[u8]) -> &[u8]
 pub fn without_semicolon(s: &[u8]) -> &[u8]
     ensures { λ r. ⌜ now r ≡ withoutSemicolon (now (s .entry)) ⌝ }
 {
-    let n = s.len();
-    if n == 0 {
+    let len = s.len();
+    if len == 0 {
         return s;
     }
-    let last = n - 1;
+    let last = len - 1;
     if s[last] == b';' {
         return &s[..last];
     }

@@ -1,6 +1,6 @@
 -- `trim::one` meets its contract.
 -- Assumes nothing.
-use borrow.Author.Tests.{lt-leb, le-leb, lt-ltb, le-ltb}
+use borrow.Author.Tests.{lt-ltb, le-ltb}
 use Rattle.rules.specs.Trimmed.{white1}
 use borrow.Author.Needs.{needs}
 use Rattle.trim.proofs.one.Statement.{statement}
