@@ -5,7 +5,7 @@
 use mathlib.Core.Path.{_≡_, _∙_, refl, sym, ap}
 use mathlib.Core.Bool.{Bool, true, false, cond, not, _&&_, true≢false, false≢true}
 use mathlib.Core.Logic.{_↔_, Iff·trans, _⊎_, inl, inr, ⊎-elim}
-use mathlib.Core.List.{List, [], _∷_}
+use mathlib.Core.List.{[], _∷_}
 use mathlib.Core.Option.{Option, none, some, Option·none-ne-some}
 use Prim.Native.Nat.{ℕ, _≤_, _<_}
 use native.Mathlib.Omega.{arith}
@@ -13,7 +13,6 @@ use borrow.Author.Tests.{leb-false, lt-leb, ne-eqb}
 use lib.Dec.{eqb, leb}
 use Rattle.rules.specs.declared.Class.{Class}
 use Rattle.rules.specs.declared.Class.the-variants.{SchemaMismatch, ConstraintViolation, UnsupportedSql, InvalidArgument}
-use Rattle.rules.specs.Lists.{any}
 use Rattle.rules.specs.Answers.{Answer, given, refused, refuse}
 use Rattle.rules.specs.Tables.{TableSchema, Catalogue}
 use Rattle.rules.specs.Statements.{Statement}
@@ -24,70 +23,9 @@ use Rattle.rules.specs.Rows.{Row, rowObeys}
 use Rattle.rules.specs.Evaluate.{Worked, worked, fault, noRule, updateRow}
 use Rattle.rules.specs.Heard.{Outcome, refuses, answers, next, classNo, heard, Read, received, judgedStatement, fitted, bindOutcome, Running, runnable, asked, obeying, workedOut, ranOn, ranStatement, runOutcome}
 use Rattle.rules.specs.Theorems.Answered.{never-given}
-use Rattle.rules.specs.Theorems.Steps.{never-answers}
+use Rattle.rules.specs.Theorems.Steps.{never-answers, heard-answers}
+use Rattle.rules.specs.Theorems.Stages.{Never, among, oneToFour, fiveToEight, number-same, never-other, never-refuses, never-next, first-stage, later-stage, same-after, next-answers, next-assoc, reworded, same-word}
 use Rattle.rules.specs.Theorems.Runnable.{IsUpdate, runnable-exactly}
-
--- ---- stages, one after the other: each has its numbers
-
-abbrev Never : {A : Type 0} → ℕ → Outcome A → Type 0
-Never k o = o ≡ refuses k → ⊥
-
-abbrev among : ℕ → List ℕ → Bool
-among k l = any (eqb k) l
-
-abbrev oneToFour : List ℕ
-oneToFour = 1 ∷ 2 ∷ 3 ∷ 4 ∷ []
-
-abbrev fiveToEight : List ℕ
-fiveToEight = 5 ∷ 6 ∷ 7 ∷ 8 ∷ []
-
-number-same : {A : Type 0} {j k : ℕ} → _≡_ {A = Outcome A} (refuses j) (refuses k) → j ≡ k
-number-same h = cc
-
--- a refusal with a number of a list is none with a number that the list has not
-never-other : {A : Type 0} {j k : ℕ} (l : List ℕ) → among j l ≡ true → among k l ≡ false → Never {A = A} k (refuses j)
-never-other l e f h = true≢false (sym e ∙ ap (λ n. among n l) (number-same h) ∙ f)
-
-never-refuses : {A : Type 0} {a : A} {k : ℕ} → Never k (answers a)
-never-refuses h = never-answers (sym h)
-
-module _ {A B : Type 0} (k : ℕ) where
-  never-next : (o : Outcome A) (f : A → Outcome B) → Never k o → ((a : A) → Never k (f a)) → Never k (next o f)
-  never-next (refuses j) f n m h = n (ap refuses (number-same h))
-  never-next (answers a) f n m h = m a h
-
-  -- a number that the later stages do not have is given where the first gives it
-  first-stage : (o : Outcome A) (f : A → Outcome B) → ((a : A) → Never k (f a)) → (next o f ≡ refuses k) ↔ (o ≡ refuses k)
-  first-stage (refuses j) f n = (λ h. cc, λ h. cc)
-  first-stage (answers a) f n = (λ h. absurd (n a h), λ h. absurd (never-refuses h))
-
-  -- one that the first stage does not have is given where the first answers and the rest gives it
-  later-stage : (o : Outcome A) (f : A → Outcome B) → Never k o → (next o f ≡ refuses k) ↔ ((a : A) × (o ≡ answers a) × (f a ≡ refuses k))
-  later-stage (refuses j) f n = (λ h. absurd (n (ap refuses (number-same h))), λ h. absurd (never-answers (h .1)))
-  later-stage (answers a) f n = (λ h. (a, refl, h), λ h. let e : a ≡ h .0 = cc in rw e (h .2))
-
--- what comes after the first stage may be exchanged
-same-after : {A B C : Type 0} (k : ℕ) (o : Outcome A) (f : A → Outcome B) (g : A → Outcome C)
-    → ((a : A) → (f a ≡ refuses k) ↔ (g a ≡ refuses k)) → (next o f ≡ refuses k) ↔ (next o g ≡ refuses k)
-same-after k (refuses j) f g e = (λ h. cc, λ h. cc)
-same-after k (answers a) f g e = e a
-
--- the whole answers where the first stage does, and the rest does
-next-answers : {A B : Type 0} (o : Outcome A) (f : A → Outcome B) (b : B) → (next o f ≡ answers b) ↔ ((a : A) × (o ≡ answers a) × (f a ≡ answers b))
-next-answers (refuses j) f b = (λ h. absurd (never-answers h), λ h. absurd (never-answers (h .1)))
-next-answers (answers a) f b = (λ h. (a, refl, h), λ h. let e : a ≡ h .0 = cc in rw e (h .2))
-
-next-assoc : {A B C : Type 0} (o : Outcome A) (f : A → Outcome B) (g : B → Outcome C) → next (next o f) g ≡ next o (λ a. next (f a) g)
-next-assoc (refuses k) f g = refl
-next-assoc (answers a) f g = refl
-
--- with another word for each of the two facts
-module _ {A : Type 0} {P Q R S : A → Type 0} where
-  reworded : ((a : A) → P a ↔ R a) → ((a : A) → Q a ↔ S a) → ((a : A) × P a × Q a) ↔ ((a : A) × R a × S a)
-  reworded e f = (λ h. (h .0, e (h .0) .0 (h .1), f (h .0) .0 (h .2)), λ h. (h .0, e (h .0) .1 (h .1), f (h .0) .1 (h .2)))
-
-same-word : {A : Type 0} → A ↔ A
-same-word = (λ h. h, λ h. h)
 
 -- ---- 5, 6, 7, 8: what the table says
 
@@ -196,7 +134,12 @@ module _ (s : Option (Read Statement)) (c : Option (Read Catalogue)) where
   received-six = (λ h. got-six (heard-as h), λ h. rw (h .isStatement, h .noCatalogue))
 
   received-seven : (received s c ≡ refuses 7) ↔ OnlyPastLimit s c
-  received-seven = (λ h. got-seven (heard-as h), λ h. rw (h .images .isStatement, h .images .isCatalogue) (either-past (statementFits (h .images)) (catalogueFits (h .images)) _ (h .pastLimit)))
+  received-seven = (
+    λ h. got-seven (heard-as h),
+    λ h.
+        let i = h .images in
+        rw (i .isStatement, i .isCatalogue) (either-past (statementFits i) (catalogueFits i) _ (h .pastLimit)),
+  )
 
   received-eight : (received s c ≡ refuses 8) ↔ OnlyBeyondAscii s c
   received-eight = (
@@ -212,7 +155,8 @@ module _ (s : Option (Read Statement)) (c : Option (Read Catalogue)) where
     λ h. got-clear (heard-as h),
     λ h.
         let w = h .within in
-        rw (w .images .isStatement, w .images .isCatalogue, w .statementIsWithin, w .catalogueIsWithin, h .clearOfEight, ← h .isStatement, ← h .isCatalogue),
+        rw
+        (w .images .isStatement, w .images .isCatalogue, w .statementIsWithin, w .catalogueIsWithin, h .clearOfEight, ← h .isStatement, ← h .isCatalogue),
   )
 
   received-never : (k : ℕ) → among k fiveToEight ≡ false → Never k (received s c)
@@ -256,10 +200,6 @@ heard-class (refused q) k = (
   λ h. ap refuse (sym (class-back (q .class)) ∙ ap classOf (number-same h) ∙ class-back k),
   λ h. ap heard h,
 )
-
-heard-answers : {A : Type 0} (r : Answer A) (a : A) → (heard r ≡ answers a) ↔ (r ≡ given a)
-heard-answers (given b) a = (λ h. cc, λ h. ap heard h)
-heard-answers (refused q) a = (λ h. absurd (never-answers h), λ h. absurd (never-given h))
 
 -- ---- 9
 
@@ -534,4 +474,6 @@ module _ (size : Row → ℕ) (room : ℕ) (s : Option (Read Statement)) (c : Op
   -- 9: "the answer is longer than the output", and none of the numbers before
   pub run-nine-exactly : (runOutcome size room s c row ≡ refuses 9) ↔ ((new : Row) × (ranStatement s c row ≡ answers new) × (room < size new))
   unfolding runOutcome
-  run-nine-exactly = fitted-nine size room (ranStatement s c row) (rw (ran-asked s c row) (never-next 9 (askedOf s c) (ranOn row) (asked-of-never s c 9 refl refl refl) (on-never row 9 refl refl)))
+  run-nine-exactly =
+      fitted-nine size room (ranStatement s c row)
+      (rw (ran-asked s c row) (never-next 9 (askedOf s c) (ranOn row) (asked-of-never s c 9 refl refl refl) (on-never row 9 refl refl)))

@@ -6,10 +6,10 @@ use mathlib.Core.List.{List, [], _∷_, map}
 use mathlib.Core.Option.{Option, none, some}
 use Prim.Native.Nat.{ℕ}
 use lib.IntN.{pos}
-use lib.ListN.{take}
+use lib.ListN.{take, replicate}
 use Rattle.tree.specs.Tree.{leaf, depth}
 use Rattle.rules.specs.declared.BoundBinaryOperator.the-variants as op
-use Rattle.rules.specs.Lists.{ascii}
+use Rattle.rules.specs.Lists.{Text, ascii}
 use Rattle.rules.specs.Tables.{Catalogue, tableByName}
 use Rattle.rules.specs.Statements.{ObjectName, Leaf, Expr, direct, Statement, update, begin}
 use Rattle.rules.specs.Bound.{int, text, bool, BoundStatement}
@@ -62,9 +62,8 @@ assigningNothing = record {
       });
 }
 
--- a name of the one letter U+00E9
-abbrev accented : Expr
-accented = leaf (Leaf.name (record { quoted = false; text = 0xC3 ∷ 0xA9 ∷ [] }))
+abbrev unquotedOf : Text → Expr
+unquotedOf t = leaf (Leaf.name (record { quoted = false; text = t }))
 
 abbrev beginning : Statement
 beginning = record { raw = ascii "BEGIN"; kind = begin false }
@@ -83,10 +82,10 @@ inputs =
     ∷ asking none
     -- 6: no catalogue image
     ∷ record { statement = read good; catalogue = none; row = aRow; room = 1 }
-    -- 7: a statement image of 65,537 bytes
-    ∷ asking (some (record { value = good; size = 65537 }))
-    -- 8: an unquoted name beyond ASCII
-    ∷ asking (read (setting "temp" (number "1") accented))
+    -- 7: a name of 129 letters
+    ∷ asking (read (setting "temp" (number "1") (unquotedOf (replicate 129 0x61))))
+    -- 8: the unquoted name U+00E9
+    ∷ asking (read (setting "temp" (number "1") (unquotedOf (0xC3 ∷ 0xA9 ∷ []))))
     -- 9: no room
     ∷ record { statement = read good; catalogue = known; row = aRow; room = 0 }
     -- 10: no row image

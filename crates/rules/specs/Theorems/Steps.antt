@@ -1,6 +1,6 @@
 -- A row of steps gives a value only where each of them gave one: what is given at the end is taken apart from the front, a step at a time.
 -- Assumes nothing.
-use mathlib.Core.Path.{_≡_, refl}
+use mathlib.Core.Path.{_≡_, refl, ap}
 use mathlib.Core.Bool.{Bool, true, false}
 use mathlib.Core.Logic.{_↔_}
 use mathlib.Core.Option.{Option, none, some}
@@ -46,9 +46,12 @@ pub never-answers : {A : Type 0} {k : ℕ} {a : A} → refuses k ≡ answers a �
 never-answers {A} {k} {a} h = let z : _≡_ {A = ℕ} 0 1 = cc in omega arith
 
 -- an answer exactly where there is no refusal
+pub heard-answers : {A : Type 0} (r : Answer A) (a : A) → (heard r ≡ answers a) ↔ (r ≡ given a)
+heard-answers (given b) a = (λ h. cc, λ h. ap heard h)
+heard-answers (refused q) a = (λ h. absurd (never-answers h), λ h. absurd (never-given h))
+
 pub heard-exactly : {A : Type 0} (r : Answer A) → Answers (heard r) ↔ Gives r
-heard-exactly (given a) = (λ h. (a, refl), λ h. (a, refl))
-heard-exactly (refused q) = (λ h. absurd (never-answers (h .1)), λ h. absurd (never-given (h .1)))
+heard-exactly r = (λ h. (h .0, heard-answers r (h .0) .0 (h .1)), λ g. (g .0, heard-answers r (g .0) .1 (g .1)))
 
 -- with room for the answer 9 does not come
 pub roomy : {A : Type 0} (size : A → ℕ) (room : ℕ) (o : Outcome A) → Room o size room → fitted size room o ≡ o
