@@ -1,6 +1,6 @@
 -- The search in a table of ranges, widths, and white space that is taken off.
 -- Assumes nothing.
-use mathlib.Core.Path.{_≡_, refl, sym}
+use mathlib.Core.Path.{_≡_, refl, sym, _∙_}
 use mathlib.Core.Bool.{Bool, true, false, cond, _&&_, _||_, and-false}
 use mathlib.Core.List.{List, map}
 use Prim.Native.Nat.{ℕ, zero, suc, _+_, _-_, _≤_, _<_, zero-le}
@@ -74,7 +74,6 @@ module _ (width : Text → ℕ) (cut : Text → Text) where
   left-all s = record { times = length s; enough = le-refl (length s); same = refl }
 
   pub left-cut : (s t : Text) → (width t ≡ 0 → ⊥) → length (cut t) < length t → Left s t → Left s (cut t)
-  unfolding off
   left-cut s t f h l = by (l .times) (l .enough) (l .same)
     where
       by : (n : ℕ) → length t ≤ n → off width cut n t ≡ off width cut (length s) s → Left s (cut t)
@@ -89,7 +88,30 @@ module _ (width : Text → ℕ) (cut : Text → Text) where
       by zero e = e
       by (suc n) e = simp (off-once n t, eq-eqb (width t) 0 z) at e
 
--- ---- the two ends: what is cut off lies within, and the part of the slice that is left is the definition's
+-- ---- an end of a text: the white space there, what is left without it, and what the code cuts off when it has found n bytes
+
+pub record End : Type 0 where
+  pub width : Text → ℕ
+  pub cut : Text → Text
+  pub part : Text → ℕ → Text
+  pub is : (s : Text) (n : ℕ) → n ≡ width s → cut s ≡ part s n
+  pub shorter : (s : Text) → (width s ≡ 0 → ⊥) → length (cut s) < length s
+
+abbrev pub LeftAt : End → Text → Text → Type 0
+LeftAt w s t = Left (w .width) (w .cut) s t
+
+module _ (w : End) (t : Text) (n : ℕ) (e : n ≡ w .width t) where
+  some : (n ≡ 0 → ⊥) → w .width t ≡ 0 → ⊥
+  some f z = f (e ∙ z)
+
+  pub end-shorter : (n ≡ 0 → ⊥) → length (w .part t n) < length t
+  end-shorter f = rw (← w .is t n e) (w .shorter t (some f))
+
+  pub end-cut : (s : Text) → (n ≡ 0 → ⊥) → LeftAt w s t → LeftAt w s (w .part t n)
+  end-cut s f l = rw (← w .is t n e) (left-cut (w .width) (w .cut) s t (some f) (w .shorter t (some f)) l)
+
+  pub end-done : (s : Text) → n ≡ 0 → LeftAt w s t → t ≡ off (w .width) (w .cut) (length s) s
+  end-done s z l = left-done (w .width) (w .cut) s t (sym e ∙ z) l
 
 pub front-le : (s : Text) → frontWidth s ≤ length s
 front-le s = width-le _ _ _ _
@@ -97,17 +119,23 @@ front-le s = width-le _ _ _ _
 pub back-le : (s : Text) → backWidth s ≤ length s
 back-le s = width-le _ _ _ _
 
-pub front-is : (s : Text) (n : ℕ) → n ≡ frontWidth s → cutFront s ≡ take (length s - n) (drop n s)
-front-is s n e = rw (← e) (sym (take-all (length s - n) (drop n s) (simp length-drop (le-refl (length s - n)))))
+abbrev pub front-end : End
+front-end = record {
+  width = frontWidth;
+  cut = cutFront;
+  part = λ s n. take (length s - n) (drop n s);
+  is = λ s n e. rw (← e) (sym (take-all (length s - n) (drop n s) (simp length-drop (le-refl (length s - n)))));
+  shorter = λ s f. simp length-drop (omega (arith, front-le s, f));
+}
 
-pub back-is : (s : Text) (n : ℕ) → n ≡ backWidth s → cutBack s ≡ take (length s - n) s
-back-is s n e = rw (← e) refl
-
-pub front-shorter : (s : Text) → (frontWidth s ≡ 0 → ⊥) → length (cutFront s) < length s
-front-shorter s f = simp length-drop (omega (arith, front-le s, f))
-
-pub back-shorter : (s : Text) → (backWidth s ≡ 0 → ⊥) → length (cutBack s) < length s
-back-shorter s f = simp length-take (omega (arith, back-le s, f))
+abbrev pub back-end : End
+back-end = record {
+  width = backWidth;
+  cut = cutBack;
+  part = λ s n. take (length s - n) s;
+  is = λ s n e. rw (← e) refl;
+  shorter = λ s f. simp length-take (omega (arith, back-le s, f));
+}
 
 -- ---- one final `;`
 

@@ -3,24 +3,23 @@
 use mathlib.Core.Path.{_≡_, _∙_}
 use mathlib.Core.Logic.{⊎-elim}
 use mathlib.Core.Bool.{false}
-use mathlib.Core.List.{List, [], _∷_}
+use mathlib.Core.List.{List, map}
 use Prim.Native.Nat.{ℕ, _≤_, _-_}
 use lib.ListN.{drop, drop-of-length-le}
 use borrow.Author.Needs.{needs}
-use Rattle.rules.specs.Trimmed.{within, white}
+use Rattle.rules.specs.Trimmed
+use Rattle.rules.specs.Trimmed.{whiteSpace, within, white}
 use Rattle.trim.specs.declared.Range.{Range}
 use Rattle.trim.proofs.Laws.{inside, hit, below, above}
 use Rattle.trim.proofs.is_white.Statement.{statement}
 use Rattle.trim.proofs.is_white.Tie as tie
 
--- the table
-abbrev upto : ℕ → ℕ → Range
-upto a b = record { 0 = a; 1 = b }
+-- the rules' table, as the code has it
+abbrev had : Trimmed.Range → Range
+had r = record { 0 = r .first; 1 = r .last }
 
 abbrev ranges : List Range
-ranges =
-    upto 0x9 0xD ∷ upto 0x20 0x20 ∷ upto 0x85 0x85 ∷ upto 0xA0 0xA0 ∷ upto 0x1680 0x1680 ∷ upto 0x2000 0x200A ∷ upto 0x2028 0x2029
-    ∷ upto 0x202F 0x202F ∷ upto 0x205F 0x205F ∷ upto 0x3000 0x3000 ∷ []
+ranges = map had whiteSpace
 
 abbrev Inv-loop : tie.InvT-loop
 Inv-loop c i₀ i = (i ≤ 10) × (inside (drop i ranges) c ≡ white c)

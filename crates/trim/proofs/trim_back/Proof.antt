@@ -1,26 +1,18 @@
 -- `trim::trim_back` meets its contract. The invariant: what is to be taken off of the text is to be taken off of what is left.
 -- Assumes nothing.
-use mathlib.Core.Path.{_≡_, subst, sym, _∙_}
-use mathlib.Core.List.{List}
-use Prim.Native.Nat.{ℕ, _<_}
 use native.Mathlib.Omega.{arith}
 use lib.ListN.{length, length-take}
 use denote.Ref.{now}
 use borrow.Author.Needs.{needs}
-use Rattle.rules.specs.Trimmed.{backWidth, cutBack}
-use Rattle.trim.proofs.Laws.{back-le, back-is, back-shorter, Left, left-all, left-cut, left-done}
+use Rattle.trim.proofs.Laws.{back-le, back-end, LeftAt, left-all, end-shorter, end-cut, end-done}
 use Rattle.trim.proofs.trim_back.Statement.{statement}
 use Rattle.trim.proofs.trim_back.Tie as tie
 
 abbrev Inv-loop : tie.InvT-loop
-Inv-loop s t₀ t = Left backWidth cutBack s t
+Inv-loop s t₀ t = LeftAt back-end s t
 
 abbrev μ-loop : tie.MeasureT-loop
 μ-loop s t₀ t = length t
-
-some : (c : tie.After-back Inv-loop μ-loop) → (c .back .result ≡ 0 → ⊥)
-    → length (cutBack (now (c .before .loop .t))) < length (now (c .before .loop .t))
-some c f = back-shorter (now (c .before .loop .t)) (λ e. f (c .back .ensures ∙ e))
 
 loop-holds : tie.Need-loop-holds Inv-loop μ-loop
 loop-holds c = left-all _ _ _
@@ -37,21 +29,18 @@ slice-aggregate-t c = simp length-take (omega arith)
 loop-less : tie.Need-loop-less Inv-loop μ-loop
 loop-less c =
     let f = c .before .before in
-    let t = now (f .before .loop .t) in
-    subst (λ (l : List ℕ). length l < length t) (back-is t (f .back .result) (f .back .ensures)) (some f (c .before .if1 .left))
+    end-shorter back-end (now (f .before .loop .t)) (f .back .result) (f .back .ensures) (c .before .if1 .left)
 
 loop-again : tie.Need-loop-again Inv-loop μ-loop
 loop-again c =
     let f = c .before .before in
     let s = now (f .before .before .before .args .s) in
-    let t = now (f .before .loop .t) in
-    subst (λ (l : List ℕ). Left backWidth cutBack s l) (back-is t (f .back .result) (f .back .ensures))
-    (left-cut backWidth cutBack s t (λ e. c .before .if1 .left (f .back .ensures ∙ e)) (some f (c .before .if1 .left)) (f .before .loop .inv))
+    end-cut back-end (now (f .before .loop .t)) (f .back .result) (f .back .ensures) s (c .before .if1 .left) (f .before .loop .inv)
 
 returns : tie.Need-returns Inv-loop μ-loop
 returns c =
     let l = c .before .before in
-    left-done backWidth cutBack _ (now (l .loop .t)) (sym (c .before .back .ensures) ∙ c .if1 .taken) (l .loop .inv)
+    end-done back-end (now (l .loop .t)) (c .before .back .result) (c .before .back .ensures) _ (c .if1 .taken) (l .loop .inv)
 
 pub trim-back-spec : {M : Type 1} → statement M
 trim-back-spec =
