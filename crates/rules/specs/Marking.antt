@@ -163,6 +163,28 @@ operators =
 abbrev pub types : List ExpressionType
 types = type.Int ∷ type.Text ∷ type.Bool ∷ type.Null ∷ []
 
+-- operators and types by their numbers, in the order in which they are declared
+abbrev pub operatorNo : BoundBinaryOperator → ℕ
+operatorNo op.Add = 0
+operatorNo op.Subtract = 1
+operatorNo op.Multiply = 2
+operatorNo op.Divide = 3
+operatorNo op.Modulo = 4
+operatorNo op.Equal = 5
+operatorNo op.NotEqual = 6
+operatorNo op.GreaterThan = 7
+operatorNo op.GreaterThanOrEqual = 8
+operatorNo op.LessThan = 9
+operatorNo op.LessThanOrEqual = 10
+operatorNo op.And = 11
+operatorNo op.Or = 12
+
+abbrev pub typeNo : ExpressionType → ℕ
+typeNo type.Int = 0
+typeNo type.Text = 1
+typeNo type.Bool = 2
+typeNo type.Null = 3
+
 unfoldable pub operatorTable : List (List (List (Verdict ExpressionType)))
 operatorTable = map (λ (o : BoundBinaryOperator). map (λ (a : ExpressionType). map (λ (b : ExpressionType). operatorRule o a b) types) types) operators
 

@@ -6,15 +6,18 @@ use mathlib.Core.Option.{some}
 use mathlib.Core.List.{List, [], _∷_}
 use Prim.Native.Nat.{ℕ}
 use lib.ListN.{getElem?}
-use Rattle.codec.specs.Format.{Format, Fixed, Enum}
+use Rattle.codec.specs.Format.{Format, Fixed, Coded, Enum}
 use Rattle.codec.specs.Layout.{text, nothing, number, code, mark, alone, int64, via, viaField, both, end, _and_, recordOf}
-use Rattle.codec.specs.Sums.{Case, case, Some, nth, made, sum, choice}
+use Rattle.codec.specs.Sums.{Case, case, Some, nth, made, sum, kinds, choice}
 use Rattle.rules.specs.declared.TableId.{TableId}
 use Rattle.rules.specs.declared.ColumnId.{ColumnId}
 use Rattle.rules.specs.declared.DataType.{DataType}
 use Rattle.rules.specs.declared.DataType.the-variants as data-type
 use Rattle.rules.specs.declared.ExpressionType.{ExpressionType}
 use Rattle.rules.specs.declared.ExpressionType.the-variants as type
+use Rattle.rules.specs.declared.BoundBinaryOperator.{BoundBinaryOperator}
+use Rattle.rules.specs.Marking.{types, typeNo, operators, operatorNo}
+use Rattle.rules.specs.Theorems.Table.{operator-found}
 use Rattle.rules.specs.Tables.{ColumnSchema}
 use Rattle.rules.specs.Bound.{Value}
 
@@ -39,20 +42,18 @@ data-type-found data-type.Bool = refl
 abbrev pub dataType : Fixed DataType
 dataType = code (record { all = data-type.Int ∷ data-type.Text ∷ data-type.Bool ∷ []; index = dataTypeNo; found = data-type-found; order = refl; few = refl })
 
-abbrev pub typeNo : ExpressionType → ℕ
-typeNo type.Int = 0
-typeNo type.Text = 1
-typeNo type.Bool = 2
-typeNo type.Null = 3
-
-pub type-found : (t : ExpressionType) → getElem? (type.Int ∷ type.Text ∷ type.Bool ∷ type.Null ∷ []) (typeNo t) ≡ some t
+pub type-found : (t : ExpressionType) → getElem? types (typeNo t) ≡ some t
 type-found type.Int = refl
 type-found type.Text = refl
 type-found type.Bool = refl
 type-found type.Null = refl
 
 abbrev pub expressionType : Fixed ExpressionType
-expressionType = code (record { all = type.Int ∷ type.Text ∷ type.Bool ∷ type.Null ∷ []; index = typeNo; found = type-found; order = refl; few = refl })
+expressionType = code (record { all = types; index = typeNo; found = type-found; order = refl; few = refl })
+
+-- the thirteen operators, in the order of `BoundBinaryOperator`
+abbrev pub operatorCodes : Coded BoundBinaryOperator
+operatorCodes = kinds (record { all = operators; index = operatorNo; found = operator-found; order = refl; few = refl })
 
 -- ---- a value: its type code, and what follows
 
@@ -72,7 +73,7 @@ value-made (Value.bool b) = refl
 value-made Value.null = refl
 
 unfoldable pub value : Format Value
-value = choice (sum values whichValue value-made ((λ z. refl), ((λ s. refl), ((λ b. refl), ((λ u. refl), tt))))) refl
+value = choice (sum values whichValue value-made refl) refl
 
 -- ---- a column: its numbers (id, type, nullable), and its name; counts have w bytes
 

@@ -39,7 +39,7 @@ pub judged-given : {A : Type 0} (v : Verdict A) {a : A} → judged v ≡ given a
 judged-given (fine b) h = cc
 judged-given (flaw k) h = absurd (never-given h)
 
-never-some : {C : Type 0} {c : C} → none ≡ some c → ⊥
+pub never-some : {C : Type 0} {c : C} → none ≡ some c → ⊥
 never-some {C} {c} h = let z : _≡_ {A = ℕ} 0 1 = cc in omega arith
 
 -- A verdict is fine exactly where a relation holds, which sees `f a` of the value `a`.

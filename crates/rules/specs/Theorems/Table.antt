@@ -2,37 +2,16 @@
 -- Assumes nothing.
 use mathlib.Core.Path.{_≡_, refl}
 use mathlib.Core.List.{[], map}
+use mathlib.Core.Option.{some}
 use Prim.Native.Nat.{ℕ}
-use lib.ListN.{length, getD, replicate}
+use lib.ListN.{length, getD, getElem?, replicate}
 use Rattle.rules.specs.declared.Class.the-variants.{SchemaMismatch}
 use Rattle.rules.specs.declared.ExpressionType.{ExpressionType}
 use Rattle.rules.specs.declared.ExpressionType.the-variants as type
 use Rattle.rules.specs.declared.BoundBinaryOperator.{BoundBinaryOperator}
 use Rattle.rules.specs.declared.BoundBinaryOperator.the-variants as op
 use Rattle.rules.specs.Answers.{flaw}
-use Rattle.rules.specs.Marking.{operatorRule, operators, types, operatorTable}
-
--- operators and types by their numbers, in the order in which they are declared
-abbrev pub operatorNo : BoundBinaryOperator → ℕ
-operatorNo op.Add = 0
-operatorNo op.Subtract = 1
-operatorNo op.Multiply = 2
-operatorNo op.Divide = 3
-operatorNo op.Modulo = 4
-operatorNo op.Equal = 5
-operatorNo op.NotEqual = 6
-operatorNo op.GreaterThan = 7
-operatorNo op.GreaterThanOrEqual = 8
-operatorNo op.LessThan = 9
-operatorNo op.LessThanOrEqual = 10
-operatorNo op.And = 11
-operatorNo op.Or = 12
-
-abbrev pub typeNo : ExpressionType → ℕ
-typeNo type.Int = 0
-typeNo type.Text = 1
-typeNo type.Bool = 2
-typeNo type.Null = 3
+use Rattle.rules.specs.Marking.{operatorRule, operators, operatorNo, types, typeNo, operatorTable}
 
 at-type : {B : Type 0} (f : ExpressionType → B) (d : B) (a : ExpressionType) → getD (map f types) (typeNo a) d ≡ f a
 at-type f d type.Int = refl
@@ -65,3 +44,19 @@ pub table-entry : (o : BoundBinaryOperator) (a b : ExpressionType)
     → getD (getD (getD operatorTable (operatorNo o) []) (typeNo a) []) (typeNo b) (flaw SchemaMismatch) ≡ operatorRule o a b
 unfolding operatorTable
 table-entry o a b = rw (at-operator, at-type, at-type)
+
+-- an operator is found at its number
+pub operator-found : (o : BoundBinaryOperator) → getElem? operators (operatorNo o) ≡ some o
+operator-found op.Add = refl
+operator-found op.Subtract = refl
+operator-found op.Multiply = refl
+operator-found op.Divide = refl
+operator-found op.Modulo = refl
+operator-found op.Equal = refl
+operator-found op.NotEqual = refl
+operator-found op.GreaterThan = refl
+operator-found op.GreaterThanOrEqual = refl
+operator-found op.LessThan = refl
+operator-found op.LessThanOrEqual = refl
+operator-found op.And = refl
+operator-found op.Or = refl
