@@ -15,7 +15,7 @@ use borrow.Author.Tests.{le-leb, lt-leb, leb-true, leb-false, eq-eqb, ne-eqb, eq
 use Rattle.wire.specs.Le.{num}
 use Rattle.codec.specs.Ways.{next, joined, numberRead, rowRead, cutRead, headedRead}
 use Rattle.codec.specs.Layout.{number, row, cut, pieces}
-use Rattle.bundle.specs.Bundle.{isThere, orNil, partsOf, IsBundle}
+use Rattle.bundle.specs.Laws.{drop-take}
 
 -- n numbers of w bytes each
 abbrev pub lengths : ℕ → ℕ → List ℕ → List ℕ
@@ -45,11 +45,6 @@ same-leb a b x y f g = go (leb a b) refl
         not-le false h = leb-false x y h
 
 -- ---- each reader, as a test and a value
-
-drop-take : (m n : ℕ) (s : List ℕ) → drop m (take (m + n) s) ≡ take n (drop m s)
-drop-take zero n s = rw (zero-add n)
-drop-take (suc m) n [] = rw (suc-add m n, take-nil n)
-drop-take (suc m) n (x ∷ s) = rw (suc-add m n) (drop-take m n s)
 
 module _ (w : ℕ) where
   number-read : (s : List ℕ) → numberRead w (take w s) ≡ cond (leb w (length s)) (some (num (take w s))) none
