@@ -29,7 +29,7 @@ use Rattle.rules.specs.Trimmed as rules-trimmed
 use Rattle.value.specs.Parts as value-parts
 use Rattle.catalogue.specs.Layout as catalogue-layout
 use Rattle.row.specs.Layout as row-layout
-use Rattle.statement.specs.Expression as statement-expression
+use Rattle.expression.specs.Expression as expression-expression
 use Rattle.statement.specs.Layout as statement-layout
 use Rattle.bound.specs.Columns as bound-columns
 use Rattle.bound.specs.Expression as bound-expression
@@ -81,7 +81,7 @@ unfolding bindBytes runBytes readStatement readCatalogue tree-tree.size tree-tre
     rules-tables.soundTable rules-tables.sound rules-trimmed.within rules-trimmed.white1 rules-trimmed.white2 rules-trimmed.white3 rules-trimmed.width
     rules-trimmed.off rules-trimmed.withoutSemicolon rules-trimmed.dispatched rules-trimmed.isShowTransactions value-parts.value
     value-parts.columnSchema catalogue-layout.table catalogue-layout.catalogue catalogue-layout.encode catalogue-layout.decode row-layout.row
-    row-layout.encode row-layout.decode statement-expression.expression statement-layout.name statement-layout.objectName statement-layout.option
+    row-layout.encode row-layout.decode expression-expression.expression statement-layout.name statement-layout.objectName statement-layout.option
     statement-layout.columnDefinition statement-layout.constraint statement-layout.create statement-layout.sourceBody statement-layout.source
     statement-layout.insertion statement-layout.relation statement-layout.tableWithJoins statement-layout.item statement-layout.selectFrom
     statement-layout.select statement-layout.queryBody statement-layout.selection statement-layout.assignmentTarget statement-layout.assignment

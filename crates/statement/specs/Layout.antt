@@ -77,7 +77,7 @@ use Rattle.rules.specs.Statements.{
   otherKind,
   Statement,
 }
-use Rattle.statement.specs.Expression.{expression, expression-not-empty}
+use Rattle.expression.specs.Expression.{expression, expression-not-empty}
 
 -- ---- names
 

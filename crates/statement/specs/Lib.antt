@@ -1,2 +1,1 @@
-pub mod Expression
 pub mod Layout

@@ -1,0 +1,275 @@
+-- What a reader of bundles cites: whether bytes read, as a test for each thing that the code looks at, and what was read, as an equation for each part.
+-- Assumes nothing.
+use mathlib.Core.Path.{_≡_, refl, sym, ap, ap₂, _∙_, subst}
+use mathlib.Core.Bool.{Bool, true, false, cond, _&&_, and-true}
+use mathlib.Core.Option.{Option, none, some, Option·none-ne-some, Option·some-injective}
+use mathlib.Core.List.{List, [], _∷_}
+use Prim.Native.Nat.{ℕ, zero, suc, _+_, _-_, _≤_, _<_}
+use native.Mathlib.Nat.{zero-add, suc-add}
+use native.Mathlib.Numerals.{add-one}
+use native.Mathlib.Omega.{arith}
+use lib.ListN.{length, take, drop, getD, length-drop, drop-of-length-le}
+use lib.Seq.{drop-cons, take-nil}
+use lib.Dec.{leb, ltb, eqb, eqb·zero-suc, eqb·suc-zero, eqb·suc-suc}
+use borrow.Author.Tests.{ltb-true, ltb-false, eqb-true}
+use Rattle.codec.specs.Format.{Format, Parts}
+use Rattle.codec.specs.Ways.{next, joined, eachJoin, endJoin, andJoin}
+use Rattle.codec.specs.Laws.{next-some}
+use Rattle.codec.specs.Layout.{pieces, bundle, listOf, each, end, _and_}
+use Rattle.bundle.specs.Bundle.{isThere, orNil, partsOf, IsBundle, PartAt, Stepped}
+
+-- ---- what was read
+
+pub there-some : {A : Type 0} {o : Option A} {a : A} → o ≡ some a → isThere o ≡ true
+there-some e = ap isThere e
+
+-- something that is there is some value
+pub some-there : {A C : Type 0} (o : Option A) → isThere o ≡ true → ((a : A) → o ≡ some a → C) → C
+some-there none e k = let z : _≡_ {A = ℕ} 0 1 = cc in absurd (omega arith)
+some-there (some a) e k = k a refl
+
+pub there-next : {A B : Type 0} (o : Option A) (f : A → B) → isThere (next o (λ a. some (f a))) ≡ isThere o
+there-next none f = refl
+there-next (some a) f = refl
+
+pub and-left : (a b : Bool) → (a && b) ≡ true → a ≡ true
+and-left true b e = refl
+and-left false b e = e
+
+pub drop-take : (m n : ℕ) (s : List ℕ) → drop m (take (m + n) s) ≡ take n (drop m s)
+drop-take zero n s = rw (zero-add n)
+drop-take (suc m) n [] = rw (suc-add m n, take-nil n)
+drop-take (suc m) n (x ∷ s) = rw (suc-add m n) (drop-take m n s)
+
+-- t of each element
+abbrev pub all : {A : Type 0} → (A → Bool) → List A → Bool
+all t [] = true
+all t (a ∷ l) = t a && all t l
+
+-- ---- bundles
+
+module _ {A : Type 0} (w : ℕ) (p : Parts A) (s : List ℕ) where
+  pub bundle-is : isThere (bundle w p .read s) ≡ (isThere (pieces w .read s) && isThere (p .join (partsOf w s)))
+  unfolding partsOf
+  bundle-is = go (pieces w .read s)
+    where
+      go : (o : Option (List (List ℕ))) → isThere (next o (p .join)) ≡ (isThere o && isThere (p .join (orNil o)))
+      go none = refl
+      go (some l) = refl
+
+  -- no bundle: no value
+  pub bundle-not : isThere (pieces w .read s) ≡ false → isThere (bundle w p .read s) ≡ false
+  bundle-not e = bundle-is ∙ ap (λ (t : Bool). t && isThere (p .join (partsOf w s))) e
+
+  pub bundle-read : IsBundle w s → bundle w p .read s ≡ p .join (partsOf w s)
+  unfolding partsOf
+  bundle-read b = go (pieces w .read s) (b .there)
+    where
+      go : (o : Option (List (List ℕ))) → isThere o ≡ true → next o (p .join) ≡ p .join (orNil o)
+      go none e = let z : _≡_ {A = ℕ} 0 1 = cc in absurd (omega arith)
+      go (some l) e = refl
+
+  pub bundle-there : {v : A} → bundle w p .read s ≡ some v → IsBundle w s
+  bundle-there {v} e = record { there = go (pieces w .read s) e }
+    where
+      go : (o : Option (List (List ℕ))) → next o (p .join) ≡ some v → isThere o ≡ true
+      go none e = absurd (Option·none-ne-some v e)
+      go (some l) e = refl
+
+  pub bundle-value : {v : A} → bundle w p .read s ≡ some v → p .join (partsOf w s) ≡ some v
+  bundle-value e = sym (bundle-read (bundle-there e)) ∙ e
+
+-- where the last part ends, the bytes end
+pub part-end : {w : ℕ} {s : List ℕ} {i at : ℕ} → PartAt w s i at → length (partsOf w s) ≤ i → at ≡ length s
+part-end {w} {s} {i} {at} p h =
+    let z : length (drop at s) ≡ 0 = ap length (sym (p .rest) ∙ ap joined (drop-of-length-le (partsOf w s) {i = i} h)) in
+    omega (arith, length-drop at s, p .within)
+
+-- ---- lists
+
+-- the parts from number i on all pass a test
+unfoldable pub from : ℕ → (List ℕ → Bool) → List ℕ → ℕ → Bool
+from w t s i = all t (drop i (partsOf w s))
+
+-- a loop over the parts: `from` the part that comes next is what the loop has still to find
+module _ (w : ℕ) (t : List ℕ → Bool) (s : List ℕ) where
+  from-turn : (i : ℕ) → i < length (partsOf w s) → from w t s i ≡ (t (getD (partsOf w s) i []) && from w t s (i + 1))
+  unfolding from
+  from-turn i h = rw (drop-cons (partsOf w s) i [] h, add-one i)
+
+  module _ {i at e : ℕ} (d : Stepped w s i at e) where
+    within : i < length (partsOf w s)
+    within = omega (arith, d .next .few)
+
+    on : from w t s i ≡ (t (take (e - at) (drop at s)) && from w t s (i + 1))
+    on = from-turn i within ∙ ap (λ (p : List ℕ). t p && from w t s (i + 1)) (sym (d .is))
+
+    pub hit : t (take (e - at) (drop at s)) ≡ false → from w t s i ≡ false
+    hit f = on ∙ ap (λ (b : Bool). b && from w t s (i + 1)) f
+
+    pub pass : t (take (e - at) (drop at s)) ≡ true → from w t s i ≡ from w t s (i + 1)
+    pass f = on ∙ ap (λ (b : Bool). b && from w t s (i + 1)) f
+
+  pub over : (i : ℕ) → length (partsOf w s) ≤ i → from w t s i ≡ true
+  unfolding from
+  over i h = rw (drop-of-length-le (partsOf w s) {i = i} h)
+
+module _ {A : Type 0} (f : Format A) where
+  each-is : (l : List (List ℕ)) → isThere (eachJoin f l) ≡ all (λ p. isThere (f .read p)) l
+  each-is [] = refl
+  each-is (p ∷ l) = go (f .read p) (eachJoin f l) ∙ ap (λ (b : Bool). isThere (f .read p) && b) (each-is l)
+    where
+      go : (o : Option A) (r : Option (List A)) → isThere (next o (λ a. next r (λ m. some (a ∷ m)))) ≡ (isThere o && isThere r)
+      go none r = refl
+      go (some a) none = refl
+      go (some a) (some m) = refl
+
+  -- a value for each part
+  pub record Each (l : List (List ℕ)) (vs : List A) : Type 0 where
+    pub count : length vs ≡ length l
+    pub value : (i : ℕ) (d : A) → i < length l → f .read (getD l i []) ≡ some (getD vs i d)
+
+  each-cons : (p : List ℕ) (l : List (List ℕ)) (a : A) (vs : List A) → f .read p ≡ some a → Each l vs → Each (p ∷ l) (a ∷ vs)
+  each-cons p l a vs e r = record { count = ap suc (r .count); value = at }
+    where
+      at : (i : ℕ) (d : A) → i < length (p ∷ l) → f .read (getD (p ∷ l) i []) ≡ some (getD (a ∷ vs) i d)
+      at zero d h = e
+      at (suc i) d h = r .value i d (omega arith)
+
+  each-values : (l : List (List ℕ)) (vs : List A) → eachJoin f l ≡ some vs → Each l vs
+  each-values [] vs e = subst (Each []) (Option·some-injective [] vs e) (record { count = refl; value = λ i d h. absurd (omega arith) })
+  each-values (p ∷ l) vs e =
+      next-some (f .read p) (λ a. next (eachJoin f l) (λ m. some (a ∷ m))) e
+      (λ a e₁ h. next-some (eachJoin f l) (λ m. some (a ∷ m)) h
+      (λ m e₂ k. subst (Each (p ∷ l)) (Option·some-injective (a ∷ m) vs k) (each-cons p l a m e₁ (each-values l m e₂))))
+
+module _ {A : Type 0} (w : ℕ) (f : Format A) (s : List ℕ) where
+  pub list-is : isThere (listOf w f .read s) ≡ (isThere (pieces w .read s) && all (λ p. isThere (f .read p)) (partsOf w s))
+  list-is = bundle-is w (each f) s ∙ ap (λ (b : Bool). isThere (pieces w .read s) && b) (each-is f (partsOf w s))
+
+  pub list-not : isThere (pieces w .read s) ≡ false → isThere (listOf w f .read s) ≡ false
+  list-not = bundle-not w (each f) s
+
+  pub list-from : isThere (pieces w .read s) ≡ true → isThere (listOf w f .read s) ≡ from w (λ p. isThere (f .read p)) s 0
+  unfolding from
+  list-from e = list-is ∙ ap (λ (b : Bool). b && all (λ p. isThere (f .read p)) (partsOf w s)) e
+
+  pub list-values : {vs : List A} → listOf w f .read s ≡ some vs → Each f (partsOf w s) vs
+  list-values {vs} e = each-values f (partsOf w s) vs (bundle-value w (each f) s e)
+
+-- the value of the part that a loop has reached
+pub list-at : {A : Type 0} {w : ℕ} {f : Format A} {s : List ℕ} {vs : List A} {i at e : ℕ} → Each f (partsOf w s) vs → Stepped w s i at e
+    → (d : A) → f .read (take (e - at) (drop at s)) ≡ some (getD vs i d)
+list-at {f = f} {i = i} r k d = ap (f .read) (k .is) ∙ r .value i d (omega (arith, k .next .few))
+
+-- ---- records
+
+-- the tests of the parts from number i on, one for each part
+abbrev pub passes : ℕ → List (List ℕ → Bool) → List (List ℕ) → Bool
+passes i [] l = true
+passes i (t ∷ []) l = t (getD l i [])
+passes i (t ∷ u ∷ ts) l = t (getD l i []) && passes (suc i) (u ∷ ts) l
+
+passes-on : (i : ℕ) (t : List ℕ → Bool) (ts : List (List ℕ → Bool)) (l : List (List ℕ)) → passes i (t ∷ ts) l ≡ (t (getD l i []) && passes (suc i) ts l)
+passes-on i t [] l = sym (and-true (t (getD l i [])))
+passes-on i t (u ∷ ts) l = refl
+
+-- the parts of a record by their numbers: `part f (part g done)` for `f and g and end`
+pub record Places {A : Type 0} (p : Parts A) : Type 1 where
+  -- a test for each part
+  pub tests : List (List ℕ → Bool)
+  -- what the parts from number i on say of a value: an equation for each part
+  pub Are : ℕ → List (List ℕ) → A → Type 0
+  pub is : (l : List (List ℕ)) (i : ℕ) → isThere (p .join (drop i l)) ≡ (eqb (length (drop i l)) (length tests) && passes i tests l)
+  pub value : (l : List (List ℕ)) (i : ℕ) (v : A) → p .join (drop i l) ≡ some v → Are i l v
+  pub make : (l : List (List ℕ)) (i : ℕ) (v : A) → length (drop i l) ≡ length tests → Are i l v → p .join (drop i l) ≡ some v
+
+pub done-is : (m : List (List ℕ)) → isThere (endJoin m) ≡ (eqb (length m) 0 && true)
+done-is [] = refl
+done-is (x ∷ m) = rw (eqb·suc-zero (length m))
+
+pub done-make : (m : List (List ℕ)) (v : Unit {0}) → length m ≡ 0 → endJoin m ≡ some v
+done-make [] v h = refl
+done-make (x ∷ m) v h = absurd (omega arith)
+
+abbrev pub done : Places end
+done = record {
+  tests = [];
+  Are = λ i l v. Unit {0};
+  is = λ l i. done-is (drop i l);
+  value = λ l i v e. tt;
+  make = λ l i v h a. done-make (drop i l) v h;
+}
+
+module _ {A B : Type 0} (f : Format A) {p : Parts B} (q : Places p) where
+  and-swap : (t u v : Bool) → (t && (u && v)) ≡ (u && (t && v))
+  and-swap true u v = refl
+  and-swap false true v = refl
+  and-swap false false v = refl
+
+  there-and : (o : Option A) (r : Option B) → isThere {A = A × B} (next o (λ a. next r (λ b. some (a, b)))) ≡ (isThere o && isThere r)
+  there-and none r = refl
+  there-and (some a) none = refl
+  there-and (some a) (some b) = refl
+
+  pub part-is : (l : List (List ℕ)) (i : ℕ)
+      → isThere ((f and p) .join (drop i l)) ≡ (eqb (length (drop i l)) (suc (length (q .tests))) && passes i ((λ x. isThere (f .read x)) ∷ q .tests) l)
+  part-is l i = go (ltb i (length l)) refl
+    where
+      n : ℕ
+      n = length (q .tests)
+
+      x : List ℕ
+      x = getD l i []
+
+      go : (t : Bool) → ltb i (length l) ≡ t
+          → isThere (andJoin f p (drop i l)) ≡ (eqb (length (drop i l)) (suc n) && passes i ((λ x. isThere (f .read x)) ∷ q .tests) l)
+      go true e =
+          rw (passes-on i (λ x. isThere (f .read x)) (q .tests) l, drop-cons l i [] (ltb-true i (length l) e), eqb·suc-suc (length (drop (suc i) l)) n)
+          (there-and (f .read x) (p .join (drop (suc i) l)) ∙ ap (λ (b : Bool). isThere (f .read x) && b) (q .is l (suc i))
+          ∙ and-swap (isThere (f .read x)) (eqb (length (drop (suc i) l)) n) (passes (suc i) (q .tests) l))
+      go false e = rw (drop-of-length-le l {i = i} (ltb-false i (length l) e), eqb·zero-suc n)
+
+  pub part-value : (l : List (List ℕ)) (i : ℕ) (v : A × B) → (f and p) .join (drop i l) ≡ some v
+      → (f .read (getD l i []) ≡ some (v .0)) × q .Are (suc i) l (v .1)
+  part-value l i v e = go (ltb i (length l)) refl
+    where
+      go : (t : Bool) → ltb i (length l) ≡ t → (f .read (getD l i []) ≡ some (v .0)) × q .Are (suc i) l (v .1)
+      go true h =
+          let k : andJoin f p (getD l i [] ∷ drop (suc i) l) ≡ some v = rw (drop-cons l i [] (ltb-true i (length l) h)) at e in
+          next-some (f .read (getD l i [])) (λ a. next (p .join (drop (suc i) l)) (λ b. some (a, b))) k
+          (λ a e₁ m. next-some (p .join (drop (suc i) l)) (λ b. some (a, b)) m (λ b e₂ z.
+          subst (λ (x : A × B). (f .read (getD l i []) ≡ some (x .0)) × q .Are (suc i) l (x .1)) (Option·some-injective (a, b) v z)
+          (e₁, q .value l (suc i) b e₂)))
+      go false h = absurd (Option·none-ne-some v (rw (drop-of-length-le l {i = i} (ltb-false i (length l) h)) at e))
+
+  pub part-make : (l : List (List ℕ)) (i : ℕ) (v : A × B) → length (drop i l) ≡ suc (length (q .tests))
+      → (f .read (getD l i []) ≡ some (v .0)) × q .Are (suc i) l (v .1) → (f and p) .join (drop i l) ≡ some v
+  part-make l i v h a =
+      let k : i < length l = omega (arith, length-drop i l) in
+      let d : drop i l ≡ getD l i [] ∷ drop (suc i) l = drop-cons l i [] k in
+      rw (d, a .0, q .make l (suc i) (v .1) (omega (arith, ap length d)) (a .1))
+
+  abbrev pub part : Places (f and p)
+  part = record {
+    tests = (λ x. isThere (f .read x)) ∷ q .tests;
+    Are = λ i l v. (f .read (getD l i []) ≡ some (v .0)) × q .Are (suc i) l (v .1);
+    is = part-is;
+    value = part-value;
+    make = part-make;
+  }
+
+module _ {A : Type 0} (w : ℕ) {p : Parts A} (q : Places p) (s : List ℕ) where
+  pub record-is : isThere (bundle w p .read s) ≡ (isThere (pieces w .read s) && (eqb (length (partsOf w s)) (length (q .tests)) && passes 0 (q .tests) (partsOf w s)))
+  record-is = bundle-is w p s ∙ ap (λ (b : Bool). isThere (pieces w .read s) && b) (q .is (partsOf w s) 0)
+
+  pub record-count : {v : A} → bundle w p .read s ≡ some v → length (partsOf w s) ≡ length (q .tests)
+  record-count e =
+      eqb-true (length (partsOf w s)) (length (q .tests)) (and-left (eqb (length (partsOf w s)) (length (q .tests))) (passes 0 (q .tests) (partsOf w s))
+      (sym (q .is (partsOf w s) 0) ∙ there-some (bundle-value w p s e)))
+
+  pub record-values : {v : A} → bundle w p .read s ≡ some v → q .Are 0 (partsOf w s) v
+  record-values {v} e = q .value (partsOf w s) 0 v (bundle-value w p s e)
+
+  pub record-make : (v : A) → IsBundle w s → length (partsOf w s) ≡ length (q .tests) → q .Are 0 (partsOf w s) v → bundle w p .read s ≡ some v
+  record-make v b n a = bundle-read w p s b ∙ q .make (partsOf w s) 0 v n a

@@ -1,0 +1,3 @@
+pub mod Bundle
+pub mod Laws
+pub mod Fields
