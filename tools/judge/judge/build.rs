@@ -10,4 +10,19 @@ fn main() {
         modules.push_str(&module_line(name, &copy));
     }
     write_original(&modules);
+    link_other_side();
+}
+
+/// With the feature `linked`, the static library that SIRKLEMET_STATICLIB names is the other side.
+fn link_other_side() {
+    println!("cargo:rerun-if-env-changed=SIRKLEMET_STATICLIB");
+    if std::env::var_os("CARGO_FEATURE_LINKED").is_none() {
+        return;
+    }
+    let Some(library) = std::env::var_os("SIRKLEMET_STATICLIB").map(PathBuf::from) else {
+        eprintln!("the feature linked needs SIRKLEMET_STATICLIB, the path of a file libNAME.a");
+        std::process::exit(1);
+    };
+    println!("cargo:rerun-if-changed={}", library.display());
+    println!("cargo:rustc-link-arg={}", library.display());
 }

@@ -309,7 +309,8 @@ fn decode_part(mut reader: Reader) -> Read<Bound> {
         4 => decode_delete(reader),
         _ => {
             reader.finish(KINDS[kind])?;
-            Ok([Bound::Begin, Bound::Commit, Bound::Rollback, Bound::ShowTables, Bound::ShowTransactions][kind - 5].clone())
+            Ok([Bound::Begin, Bound::Commit, Bound::Rollback, Bound::ShowTables, Bound::ShowTransactions][kind - 5]
+                .clone())
         }
     }
 }

@@ -214,7 +214,10 @@ impl<'a> Reader<'a> {
         let start = self.at;
         let count = self.unlogged_number(width.bytes(), what)? as usize;
         if self.rest.len() / width.bytes() < count {
-            return damage(self.at, format!("{what}: {count} lengths are needed and {} bytes are left", self.rest.len()));
+            return damage(
+                self.at,
+                format!("{what}: {count} lengths are needed and {} bytes are left", self.rest.len()),
+            );
         }
         let mut lengths = Vec::with_capacity(count);
         for _ in 0..count {

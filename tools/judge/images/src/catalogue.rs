@@ -49,8 +49,7 @@ impl Catalogue {
 
 impl Table {
     fn encode(&self) -> Written {
-        let numbers =
-            [&self.id.to_le_bytes()[..], &self.version.to_le_bytes(), &self.tablets.to_le_bytes()].concat();
+        let numbers = [&self.id.to_le_bytes()[..], &self.version.to_le_bytes(), &self.tablets.to_le_bytes()].concat();
         let parts = [
             numbers,
             self.name.clone().into_bytes(),

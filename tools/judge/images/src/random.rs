@@ -80,7 +80,8 @@ pub fn any_u64(rng: &mut Rng) -> u64 {
 }
 
 const PIECES: [&str; 20] = [
-    "", "a", "A", "b", "runs", "serial", "Ok", "_", " ", "\"", "'", ";", "0", "9", "\u{0}", "é", "Å", "İ", "\u{2028}", "𝕏",
+    "", "a", "A", "b", "runs", "serial", "Ok", "_", " ", "\"", "'", ";", "0", "9", "\u{0}", "é", "Å", "İ", "\u{2028}",
+    "𝕏",
 ];
 
 pub fn any_text(rng: &mut Rng) -> String {
@@ -177,10 +178,7 @@ fn any_query(rng: &mut Rng) -> Query {
 }
 
 fn any_table(rng: &mut Rng) -> Table {
-    Table {
-        joins: flip(rng),
-        relation: maybe(rng, |rng| Relation { features: flip(rng), name: any_object_name(rng) }),
-    }
+    Table { joins: flip(rng), relation: maybe(rng, |rng| Relation { features: flip(rng), name: any_object_name(rng) }) }
 }
 
 fn any_update(rng: &mut Rng) -> Update {
@@ -233,15 +231,8 @@ fn any_run<N: RunNode>(rng: &mut Rng, most: usize, make: impl Fn(&mut Rng, usize
 
 fn any_node(rng: &mut Rng, operands: usize) -> Node {
     let leaves = [Node::True, Node::False, Node::Null, Node::OtherLiteral, Node::OtherExpression];
-    let unaries = [
-        Node::Parentheses,
-        Node::IsNull,
-        Node::IsNotNull,
-        Node::Plus,
-        Node::Minus,
-        Node::Not,
-        Node::OtherUnary,
-    ];
+    let unaries =
+        [Node::Parentheses, Node::IsNull, Node::IsNotNull, Node::Plus, Node::Minus, Node::Not, Node::OtherUnary];
     match operands {
         0 => match rng.below(5) {
             0 => Node::Name(any_name(rng)),
@@ -290,12 +281,7 @@ fn any_catalogue_table(rng: &mut Rng) -> CatalogueTable {
 }
 
 fn any_column(rng: &mut Rng) -> Column {
-    Column {
-        id: any_u64(rng).max(1),
-        data_type: *rng.pick(&ColumnType::ALL),
-        nullable: flip(rng),
-        name: any_text(rng),
-    }
+    Column { id: any_u64(rng).max(1), data_type: *rng.pick(&ColumnType::ALL), nullable: flip(rng), name: any_text(rng) }
 }
 
 pub fn any_value(rng: &mut Rng) -> Value {
@@ -314,11 +300,9 @@ pub fn any_row(rng: &mut Rng) -> Row {
 pub fn any_bound(rng: &mut Rng) -> bound::Bound {
     use bound::Bound;
     match rng.below(15) {
-        0..=1 => Bound::CreateTable {
-            name: any_text(rng),
-            columns: rng.many(3, any_column),
-            key: rng.many(3, any_u64),
-        },
+        0..=1 => {
+            Bound::CreateTable { name: any_text(rng), columns: rng.many(3, any_column), key: rng.many(3, any_u64) }
+        }
         2..=3 => Bound::Insert {
             table: any_table_ref(rng),
             columns: rng.many(3, any_column_ref),
@@ -331,10 +315,8 @@ pub fn any_bound(rng: &mut Rng) -> bound::Bound {
         },
         6..=7 => Bound::Update {
             table: any_table_ref(rng),
-            assignments: rng.many(3, |rng| bound::Assignment {
-                column: any_column_ref(rng),
-                value: any_bound_expression(rng),
-            }),
+            assignments: rng
+                .many(3, |rng| bound::Assignment { column: any_column_ref(rng), value: any_bound_expression(rng) }),
             filter: any_bound_expression(rng),
         },
         8..=9 => Bound::Delete { table: any_table_ref(rng), filter: any_bound_expression(rng) },
@@ -368,8 +350,7 @@ fn any_bound_expression(rng: &mut Rng) -> bound::Expression {
 
 fn any_bound_node(rng: &mut Rng, operands: usize) -> bound::Node {
     use bound::NodeKind;
-    let unaries =
-        [NodeKind::Positive, NodeKind::Negative, NodeKind::Not, NodeKind::IsNull, NodeKind::IsNotNull];
+    let unaries = [NodeKind::Positive, NodeKind::Negative, NodeKind::Not, NodeKind::IsNull, NodeKind::IsNotNull];
     let kind = match operands {
         0 if flip(rng) => NodeKind::Column(any_column_ref(rng)),
         0 => NodeKind::Literal(any_value(rng)),

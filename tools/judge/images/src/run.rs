@@ -100,12 +100,13 @@ fn read_nodes<N: RunNode>(mut table: Reader, mut contents: Reader) -> Read<(Vec<
         let end = table.peek_number(width, width);
         table.part(2 * width, "node")?;
         if end < last_end {
-            return damage(start + N::HEAD + width, format!("the end {end} lies before the end {last_end} of the node before"));
+            return damage(
+                start + N::HEAD + width,
+                format!("the end {end} lies before the end {last_end} of the node before"),
+            );
         }
         let content = contents.part(end - last_end, "content of a node")?;
-        let node = read_node::<N>(head, content, &spans, |operands| {
-            format!("span {span}, end {end}{operands}")
-        })?;
+        let node = read_node::<N>(head, content, &spans, |operands| format!("span {span}, end {end}{operands}"))?;
         nodes.push(node);
         spans.push(span);
         last_end = end;
@@ -154,7 +155,10 @@ fn check_spans<N: RunNode>(nodes: &[N], written: &[usize], table_at: usize, size
         }
         Err(_) => {
             let last = nodes.len() - 1;
-            return damage(place(last), format!("node {last} is the last and not the root of all: nodes are left over"));
+            return damage(
+                place(last),
+                format!("node {last} is the last and not the root of all: nodes are left over"),
+            );
         }
     };
     for (number, (have, want)) in written.iter().zip(expected).enumerate() {

@@ -58,7 +58,9 @@ pub fn show(kind: ImageKind, image: &[u8], table: Option<&Table>) -> Shown {
     fields.sort_by_key(|field| field.start);
     fields.iter().for_each(|field| text.push_str(&field_to_text(field, image)));
     match summary {
-        Ok(summary) => Shown { text: format!("{text}{}{summary}", if summary.is_empty() { "" } else { "\n" }), damage: None },
+        Ok(summary) => {
+            Shown { text: format!("{text}{}{summary}", if summary.is_empty() { "" } else { "\n" }), damage: None }
+        }
         Err(damage) => Shown { text, damage: Some(damage) },
     }
 }

@@ -20,11 +20,20 @@ pub enum Tree {
     Update(Update),
     Delete(Delete),
     /// The mark: modes or a modifier.
-    Begin { modes: bool },
-    Commit { chain: bool },
-    Rollback { chain: bool, savepoint: bool },
+    Begin {
+        modes: bool,
+    },
+    Commit {
+        chain: bool,
+    },
+    Rollback {
+        chain: bool,
+        savepoint: bool,
+    },
     /// The mark: any modifier or option.
-    ShowTables { options: bool },
+    ShowTables {
+        options: bool,
+    },
     Other,
 }
 
@@ -172,13 +181,8 @@ pub enum OptionKind {
 }
 
 impl OptionKind {
-    pub const ALL: [OptionKind; 5] = [
-        OptionKind::Null,
-        OptionKind::NotNull,
-        OptionKind::Key,
-        OptionKind::KeyWithCharacteristics,
-        OptionKind::Other,
-    ];
+    pub const ALL: [OptionKind; 5] =
+        [OptionKind::Null, OptionKind::NotNull, OptionKind::Key, OptionKind::KeyWithCharacteristics, OptionKind::Other];
 }
 
 #[derive(Debug, Clone, PartialEq, Eq)]
@@ -395,6 +399,68 @@ impl Tree {
         }
     }
 
+    /// Every name of the statement.
+    pub fn names_mut(&mut self) -> Vec<&mut Name> {
+        fn one(name: &mut ObjectName) -> Option<&mut Name> {
+            match name {
+                ObjectName::One(name) => Some(name),
+                ObjectName::Other => None,
+            }
+        }
+        fn in_expression(expression: &mut Expression) -> impl Iterator<Item = &mut Name> {
+            expression.nodes.iter_mut().filter_map(|node| match node {
+                Node::Name(name) => Some(name),
+                _ => None,
+            })
+        }
+        fn of_table(table: &mut Table) -> Option<&mut Name> {
+            one(&mut table.relation.as_mut()?.name)
+        }
+        match self {
+            Tree::CreateTable(create) => {
+                let columns = create.columns.iter_mut().map(|column| &mut column.name);
+                let keys = create.constraints.iter_mut().flat_map(|constraint| match constraint {
+                    Constraint::PrimaryKey { names, .. } => names.iter_mut().collect(),
+                    Constraint::Other => Vec::new(),
+                });
+                one(&mut create.name).into_iter().chain(columns).chain(keys).collect()
+            }
+            Tree::Insert(insert) => {
+                let rows = insert.source.iter_mut().filter_map(|source| source.values.as_mut());
+                let values = rows.flat_map(|values| values.rows.iter_mut().flatten()).flat_map(in_expression);
+                one(&mut insert.table).into_iter().chain(insert.columns.iter_mut()).chain(values).collect()
+            }
+            Tree::Query(query) => {
+                let Some(select) = query.select.as_mut() else { return Vec::new() };
+                let items = select.items.iter_mut().filter_map(|item| match item {
+                    Item::Name(name) => Some(name),
+                    _ => None,
+                });
+                let condition = select.condition.iter_mut().flat_map(in_expression);
+                select.from.as_mut().and_then(of_table).into_iter().chain(items).chain(condition).collect()
+            }
+            Tree::Update(update) => {
+                let assignments = update.assignments.iter_mut().flat_map(|assignment| {
+                    let target = match &mut assignment.target {
+                        Target::Column(name) => one(name),
+                        Target::Tuple => None,
+                    };
+                    target.into_iter().chain(in_expression(&mut assignment.value))
+                });
+                let condition = update.condition.iter_mut().flat_map(in_expression);
+                of_table(&mut update.table).into_iter().chain(assignments).chain(condition).collect()
+            }
+            Tree::Delete(delete) => {
+                let from = match &mut delete.from {
+                    DeleteFrom::Table(table) => of_table(table),
+                    _ => None,
+                };
+                from.into_iter().chain(delete.condition.iter_mut().flat_map(in_expression)).collect()
+            }
+            _ => Vec::new(),
+        }
+    }
+
     fn encode(&self) -> Written {
         let body = match self {
             Tree::CreateTable(create) => create.encode()?,
@@ -534,9 +600,7 @@ impl Table {
     fn encode(&self) -> Vec<u8> {
         match &self.relation {
             None => vec![u8::from(self.joins), 0],
-            Some(relation) => {
-                behind(&[u8::from(self.joins), 1, u8::from(relation.features)], relation.name.encode())
-            }
+            Some(relation) => behind(&[u8::from(self.joins), 1, u8::from(relation.features)], relation.name.encode()),
         }
     }
 }
@@ -626,9 +690,7 @@ fn decode_tree(mut reader: Reader) -> Read<Tree> {
         4 => return Ok(Tree::Delete(decode_delete(reader)?)),
         5 => Tree::Begin { modes: reader.mark("mark 1, modes or modifier")? },
         6 => Tree::Commit { chain: reader.mark("mark 1, chain")? },
-        7 => {
-            Tree::Rollback { chain: reader.mark("mark 1, chain")?, savepoint: reader.mark("mark 2, savepoint")? }
-        }
+        7 => Tree::Rollback { chain: reader.mark("mark 1, chain")?, savepoint: reader.mark("mark 2, savepoint")? },
         8 => Tree::ShowTables { options: reader.mark("mark 1, modifiers or options")? },
         _ => Tree::Other,
     };
@@ -677,10 +739,7 @@ fn decode_column(reader: Reader) -> Read<ColumnDefinition> {
 fn decode_option(reader: Reader) -> Read<ColumnOption> {
     const MEANINGS: [&str; 5] = ["NULL", "NOT NULL", "PRIMARY KEY", "PRIMARY KEY with characteristics", "any other"];
     whole(reader, "option", |part| {
-        Ok(ColumnOption {
-            named: part.mark("mark 1, named")?,
-            kind: OptionKind::ALL[part.code("option", &MEANINGS)?],
-        })
+        Ok(ColumnOption { named: part.mark("mark 1, named")?, kind: OptionKind::ALL[part.code("option", &MEANINGS)?] })
     })
 }
 

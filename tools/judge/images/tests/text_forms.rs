@@ -84,7 +84,9 @@ fn errors_name_a_place() {
 
 #[test]
 fn numbers_are_kept_as_written() {
-    let Tree::Query(query) = statement("SELECT 1.50e+3, .5, 007 FROM t WHERE 1e3 = 1.5").unwrap().tree else { panic!() };
+    let Tree::Query(query) = statement("SELECT 1.50e+3, .5, 007 FROM t WHERE 1e3 = 1.5").unwrap().tree else {
+        panic!()
+    };
     let nodes = query.select.unwrap().condition.unwrap().nodes;
     assert_eq!(nodes[0], Node::Number("1e3".to_string()));
 }

@@ -491,10 +491,9 @@ pub fn bound_value(bound: &BoundStatement) -> image_bound::Bound {
             assignments: update.assignments.iter().map(bound_assignment).collect(),
             filter: bound_expression(&update.filter),
         },
-        BoundStatement::Delete(delete) => image_bound::Bound::Delete {
-            table: table_ref(&delete.table),
-            filter: bound_expression(&delete.filter),
-        },
+        BoundStatement::Delete(delete) => {
+            image_bound::Bound::Delete { table: table_ref(&delete.table), filter: bound_expression(&delete.filter) }
+        }
         BoundStatement::Begin => image_bound::Bound::Begin,
         BoundStatement::Commit => image_bound::Bound::Commit,
         BoundStatement::Rollback => image_bound::Bound::Rollback,

@@ -5,6 +5,8 @@
 
 include!(concat!(env!("OUT_DIR"), "/original.rs"));
 
+pub mod compare;
 pub mod decode;
 pub mod encode;
+pub mod generate;
 pub mod judge;

@@ -109,7 +109,9 @@ fn run(command: &Command) -> Result<(), Failure> {
     match words.as_slice() {
         ["help", ..] => write_out(command, HELP.as_bytes()),
         ["catalogue", file] => encode(command, file, text::catalogue::catalogue, Catalogue::encode),
-        ["statement", file] => encode(command, file, |text| read_statement(command, text), statement::Statement::encode),
+        ["statement", file] => {
+            encode(command, file, |text| read_statement(command, text), statement::Statement::encode)
+        }
         ["row", file] => encode_row(command, file),
         ["show", file] => show_any(command, file),
         ["show", kind, file] => match ImageKind::ALL.into_iter().find(|known| known.name() == *kind) {
@@ -122,11 +124,7 @@ fn run(command: &Command) -> Result<(), Failure> {
 
 fn read_bytes(file: &str) -> Result<Vec<u8>, Failure> {
     let mut bytes = Vec::new();
-    let read = if file == "-" {
-        std::io::stdin().read_to_end(&mut bytes).map(|_| bytes)
-    } else {
-        std::fs::read(file)
-    };
+    let read = if file == "-" { std::io::stdin().read_to_end(&mut bytes).map(|_| bytes) } else { std::fs::read(file) };
     read.or_else(|error| refused(format!("{file}: {error}")))
 }
 
@@ -223,7 +221,9 @@ fn show_any(command: &Command, file: &str) -> Result<(), Failure> {
     if kinds.is_empty() {
         let tried: Vec<String> = ImageKind::ALL
             .iter()
-            .filter_map(|kind| show(*kind, &image, None).damage.map(|damage| format!("no {} image: {damage}", kind.name())))
+            .filter_map(|kind| {
+                show(*kind, &image, None).damage.map(|damage| format!("no {} image: {damage}", kind.name()))
+            })
             .collect();
         return refused(format!("{file}: this is no image\n  {}", tried.join("\n  ")));
     }

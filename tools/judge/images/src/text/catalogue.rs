@@ -45,8 +45,7 @@ fn without_hash_comments(text: &str) -> String {
 }
 
 fn table(cursor: &mut Cursor) -> Parsed<Table> {
-    let mut table =
-        Table { id: 0, version: 1, tablets: 1, name: name(cursor)?, columns: Vec::new(), key: Vec::new() };
+    let mut table = Table { id: 0, version: 1, tablets: 1, name: name(cursor)?, columns: Vec::new(), key: Vec::new() };
     cursor.expect_word("id")?;
     table.id = number(cursor)?;
     if cursor.eat_word("version") {

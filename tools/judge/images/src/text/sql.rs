@@ -333,7 +333,17 @@ fn query(cursor: &mut Cursor) -> Parsed<Query> {
 }
 
 const SELECT_FEATURES: [&str; 12] = [
-    "INTO", "LATERAL", "PREWHERE", "GROUP", "CLUSTER", "DISTRIBUTE", "SORT", "HAVING", "WINDOW", "QUALIFY", "CONNECT",
+    "INTO",
+    "LATERAL",
+    "PREWHERE",
+    "GROUP",
+    "CLUSTER",
+    "DISTRIBUTE",
+    "SORT",
+    "HAVING",
+    "WINDOW",
+    "QUALIFY",
+    "CONNECT",
     "START",
 ];
 
@@ -488,7 +498,8 @@ fn update(cursor: &mut Cursor) -> Parsed<Tree> {
     }
     let table = table(cursor)?;
     cursor.expect_word("SET")?;
-    let mut update = Update { from: false, returning: false, conflict, table, assignments: Vec::new(), condition: None };
+    let mut update =
+        Update { from: false, returning: false, conflict, table, assignments: Vec::new(), condition: None };
     if !ends_here(cursor, &["FROM", "WHERE", "RETURNING"]) {
         update.assignments.push(assignment(cursor)?);
         while cursor.eat_sign(",") {

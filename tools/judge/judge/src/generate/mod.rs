@@ -1,0 +1,157 @@
+//! Cases for the comparison. A case is mostly a statement that binds, with no, one, two or more faults planted in it or
+//! in its catalogue, so that every test of the Rust is reached alone and in conflict with every other. Case number i of
+//! a seed does not depend on the cases before it.
+
+mod catalogues;
+mod expressions;
+mod faults;
+mod names;
+mod statements;
+mod texts;
+
+use images::catalogue::Catalogue;
+use images::random::{Rng, any_catalogue, any_statement, damage_bytes};
+use images::statement::Statement;
+
+use crate::judge::{Answer, judge};
+pub use faults::FAULTS;
+
+/// What both sides are asked.
+#[derive(Debug, Clone, PartialEq, Eq)]
+pub struct Case {
+    pub statement: Vec<u8>,
+    pub catalogue: Vec<u8>,
+    pub room: usize,
+}
+
+/// A case and the faults planted in it. With exactly two faults, `alone` has the case with the first only and the case
+/// with the second only.
+pub struct Planted {
+    pub case: Case,
+    pub faults: Vec<&'static str>,
+    pub alone: Option<[Case; 2]>,
+}
+
+/// A case before its bytes are made.
+#[derive(Debug, Clone)]
+pub struct Draft {
+    pub statement: Statement,
+    pub catalogue: Catalogue,
+    pub room: Room,
+    /// Which entry of a list the faults prefer.
+    pub focus: usize,
+    /// Seeds of damage that is done to the bytes.
+    pub statement_damage: Option<u64>,
+    pub catalogue_damage: Option<u64>,
+}
+
+/// How much room the answer gets.
+#[derive(Debug, Clone, Copy, PartialEq, Eq)]
+pub enum Room {
+    Ample,
+    Exact,
+    OneShort,
+    None,
+}
+
+/// A room that an answer of usual size leaves some of.
+const AMPLE_ROOM: usize = 4_096;
+
+pub fn planted(seed: u64, index: u64) -> Planted {
+    let mut rng = Rng::of_case(seed, index);
+    if rng.once_in(25) {
+        return nonsense(&mut rng);
+    }
+    let base = base(&mut rng);
+    let count = [0, 0, 0, 1, 1, 1, 1, 2, 2, 2, 2, 2, 2, 2, 2, 2, 3, 3, 3, 4][rng.below(20)];
+    let mut draft = base.clone();
+    let mut applied = Vec::new();
+    for _ in 0..count {
+        let fault_seed = rng.next();
+        let (fault, place) = plant_some_fault(&mut rng, fault_seed, &mut draft);
+        applied.push((fault, place, fault_seed));
+    }
+    let alone = match applied.as_slice() {
+        [first, second] => Some([first, second].map(|(_, place, fault_seed)| {
+            let mut draft = base.clone();
+            (FAULTS[*place].plant)(&mut Rng::new(*fault_seed), &mut draft);
+            draft.finish()
+        })),
+        _ => None,
+    };
+    Planted { case: draft.finish(), faults: applied.into_iter().map(|(fault, ..)| fault).collect(), alone }
+}
+
+fn base(rng: &mut Rng) -> Draft {
+    let catalogue = catalogues::catalogue(rng);
+    let tree = statements::tree(rng, &catalogue);
+    let raw = texts::raw(rng, &tree);
+    Draft {
+        statement: Statement { raw, tree },
+        catalogue,
+        room: if rng.once_in(8) { Room::Exact } else { Room::Ample },
+        focus: rng.below(60),
+        statement_damage: None,
+        catalogue_damage: None,
+    }
+}
+
+/// Tries faults until one can be planted. Some can always be.
+fn plant_some_fault(rng: &mut Rng, fault_seed: u64, draft: &mut Draft) -> (&'static str, usize) {
+    loop {
+        let place = rng.below(FAULTS.len());
+        let fault = &FAULTS[place];
+        if !rng.once_in(fault.rarity) {
+            continue;
+        }
+        let mut changed = draft.clone();
+        if (fault.plant)(&mut Rng::new(fault_seed), &mut changed) {
+            *draft = changed;
+            return (fault.name, place);
+        }
+    }
+}
+
+/// Any statement over any catalogue.
+fn nonsense(rng: &mut Rng) -> Planted {
+    let draft = Draft {
+        statement: any_statement(rng),
+        catalogue: any_catalogue(rng),
+        room: Room::Ample,
+        focus: 0,
+        statement_damage: rng.once_in(4).then(|| rng.next()),
+        catalogue_damage: rng.once_in(4).then(|| rng.next()),
+    };
+    Planted { case: draft.finish(), faults: vec!["nonsense"], alone: None }
+}
+
+impl Draft {
+    fn finish(&self) -> Case {
+        let mut statement = self.statement.encode().unwrap_or_default();
+        let mut catalogue = self.catalogue.encode_unjudged().unwrap_or_default();
+        if let Some(seed) = self.statement_damage {
+            damage_bytes(&mut Rng::new(seed), &mut statement);
+        }
+        if let Some(seed) = self.catalogue_damage {
+            damage_bytes(&mut Rng::new(seed), &mut catalogue);
+        }
+        let room = self.room.bytes(&statement, &catalogue);
+        Case { statement, catalogue, room }
+    }
+}
+
+impl Room {
+    /// The room in bytes, by what the Rust's answer needs.
+    pub fn bytes(self, statement: &[u8], catalogue: &[u8]) -> usize {
+        let needed = match judge(statement, catalogue, usize::MAX) {
+            Answer::Bound(image) => image.len(),
+            Answer::Refused(_) => 0,
+        };
+        match self {
+            Room::Ample => AMPLE_ROOM + needed,
+            Room::Exact => needed,
+            Room::OneShort => needed.saturating_sub(1),
+            Room::None => 0,
+        }
+    }
+}
