@@ -1,1 +1,32 @@
-// The catalogue's image. `specs/Layout.antt` has its layout and the two round trips; there is no code here yet.
+// The catalogue's image. `specs/Layout.antt` has its layout and the two round trips.
+ghost use mathlib.Core.Path.{_≡_};
+ghost use Rattle.codec.specs.Layout.{alone, listOf};
+ghost use Rattle.bundle.specs.Bundle.{isThere};
+ghost use Rattle.value.specs.Parts.{columnId, columnNumbers, columnSchema};
+ghost use Rattle.catalogue.specs.Layout.{tableNumbers, table};
+
+// Whether bytes are a column's numbers: an id of 8 bytes, a type code and a mark.
+fn are_column_numbers(s: &[u8]) -> bool
+    ensures { λ r. ⌜ r ≡ isThere (alone columnNumbers .read (now (s .entry))) ⌝ }
+{
+    if s.len() != 10 {
+        return false;
+    }
+    if s[8] >= 3 {
+        return false;
+    }
+    s[9] < 2
+}
+
+// Whether bytes are a column: its numbers and its name.
+fn is_column(s: &[u8]) -> bool
+    ensures { λ r. ⌜ r ≡ isThere (columnSchema 2 .read (now (s .entry))) ⌝ }
+{
+    if !bundle::is_record(s, 2, 2) {
+        return false;
+    }
+    if !are_column_numbers(bundle::part(s, 2, 0)) {
+        return false;
+    }
+    utf8::is_utf8(bundle::part(s, 2, 1))
+}

@@ -1,0 +1,40 @@
+-- Whether bytes are a column, or a table: a test for each thing that the code looks at.
+-- Assumes nothing.
+use mathlib.Core.Path.{_≡_, refl, _∙_, ap}
+use mathlib.Core.Bool.{Bool, _&&_}
+use mathlib.Core.List.{List, [], _∷_}
+use Prim.Native.Nat.{ℕ}
+use lib.ListN.{length, getD}
+use lib.Dec.{ltb, eqb}
+use Rattle.codec.specs.Format.{Enum}
+use Rattle.codec.specs.Layout.{text, alone, bools, pieces, end, _and_}
+use Rattle.utf8.specs.Decide.{isUtf8}
+use Rattle.bundle.specs.Bundle.{isThere, partsOf, isRecord}
+use Rattle.bundle.specs.Laws.{Places, part, part-as, done, via-record-decided, Decides}
+use Rattle.bundle.specs.Fields.{Spot, numberSpot, codeSpot, bothSpot, viaSpot, field-is, text-is}
+use Rattle.value.specs.Parts.{columnId, dataTypeNo, data-type-found, dataType, columnNumbers, columnSchema}
+use Rattle.rules.specs.declared.DataType.{DataType}
+use Rattle.rules.specs.declared.DataType.the-variants as data-type
+
+-- ---- a column
+
+abbrev pub columnIdSpot : Spot columnId
+columnIdSpot = viaSpot (numberSpot 8) (λ n. record { 0 = n }) (λ i. i .0) (λ i. refl) (λ n h. refl)
+
+abbrev pub dataTypes : Enum DataType
+dataTypes = record { all = data-type.Int ∷ data-type.Text ∷ data-type.Bool ∷ []; index = dataTypeNo; found = data-type-found; order = refl; few = refl }
+
+abbrev pub columnNumbersSpot : Spot columnNumbers
+columnNumbersSpot = bothSpot columnIdSpot (bothSpot (codeSpot dataTypes) (codeSpot bools))
+
+pub column-numbers-decided : (s : List ℕ) → Decides (isThere (alone columnNumbers .read s)) (eqb (length s) 10 ∷ ltb (getD s 8 0) 3 ∷ ltb (getD s 9 0) 2 ∷ [])
+column-numbers-decided s = record { is = field-is columnNumbersSpot s }
+
+abbrev pub columnParts : Places (alone columnNumbers and text and end)
+columnParts = part (alone columnNumbers) (part-as text isUtf8 text-is done)
+
+pub column-decided : (s : List ℕ)
+    → Decides (isThere (columnSchema 2 .read s))
+    (isRecord 2 2 s ∷ isThere (alone columnNumbers .read (getD (partsOf 2 s) 0 [])) ∷ isUtf8 (getD (partsOf 2 s) 1 []) ∷ [])
+unfolding columnSchema
+column-decided s = via-record-decided 2 columnParts s _
