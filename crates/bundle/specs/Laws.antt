@@ -9,7 +9,7 @@ use native.Mathlib.Nat.{zero-add, suc-add}
 use native.Mathlib.Numerals.{add-one}
 use native.Mathlib.Omega.{arith}
 use lib.ListN.{length, take, drop, getD, length-drop, drop-of-length-le}
-use lib.Seq.{drop-cons, take-nil}
+use lib.Seq.{drop-cons, take-nil, length-take-le}
 use lib.Dec.{leb, ltb, eqb, eqb·zero-suc, eqb·suc-zero, eqb·suc-suc}
 use borrow.Author.Tests.{ltb-true, ltb-false, eqb-true, not-true, not-false}
 use Rattle.codec.specs.Format.{Format, Parts}
@@ -119,6 +119,9 @@ part-end {w} {s} {i} {at} p h =
     let z : length (drop at s) ≡ 0 = ap length (sym (p .rest) ∙ ap joined (drop-of-length-le (partsOf w s) {i = i} h)) in
     omega (arith, length-drop at s, p .within)
 
+pub step-size : {w : ℕ} {s : List ℕ} {i at e : ℕ} → Stepped w s i at e → length (take (e - at) (drop at s)) ≡ e - at
+step-size {s = s} {at = at} {e = e} d = length-take-le (e - at) (drop at s) (omega (arith, length-drop at s, d .forth, d .within))
+
 -- ---- lists
 
 -- the parts from number i on all pass a test
@@ -190,6 +193,37 @@ module _ {A : Type 0} (w : ℕ) (f : Format A) (s : List ℕ) where
 
   pub list-values : {vs : List A} → listOf w f .read s ≡ some vs → Each f (partsOf w s) vs
   list-values {vs} e = each-values f (partsOf w s) vs (bundle-value w (each f) s e)
+
+-- a loop over the n parts, which has reached part i: X is what the parts that are left decide
+pub record Walk (w : ℕ) (t : List ℕ → Bool) (s : List ℕ) (X : Bool) (n i at : ℕ) : Type 0 where
+  pub bundle : IsBundle w s
+  pub count : n ≡ length (partsOf w s)
+  pub here : PartAt w s i at
+  pub left : X ≡ from w t s i
+
+-- before the first turn, over a list of f whose parts the code tests by t
+pub walk : {A : Type 0} {w n at : ℕ} {s : List ℕ} (f : Format A) (t : List ℕ → Bool) → ((p : List ℕ) → isThere (f .read p) ≡ t p)
+    → isThere (pieces w .read s) ≡ true → n ≡ length (partsOf w s) → PartAt w s 0 at → Walk w t s (isThere (listOf w f .read s)) n 0 at
+unfolding from
+walk {w = w} {s = s} f t same e k h =
+    record { bundle = record { there = e }; count = k; here = h; left = list-from w f s e ∙ all-same (partsOf w s) }
+  where
+    all-same : (l : List (List ℕ)) → all (λ p. isThere (f .read p)) l ≡ all t l
+    all-same [] = refl
+    all-same (p ∷ l) = ap₂ (λ (a b : Bool). a && b) (same p) (all-same l)
+
+module _ {w : ℕ} {t : List ℕ → Bool} {s : List ℕ} {X : Bool} {n i at : ℕ} (k : Walk w t s X n i at) where
+  module _ {e : ℕ} (d : Stepped w s i at e) where
+    -- a part that fails, and one that passes
+    pub walk-stop : t (take (e - at) (drop at s)) ≡ false → false ≡ X
+    walk-stop f = sym (k .left ∙ hit w t s d f)
+
+    pub walk-on : t (take (e - at) (drop at s)) ≡ true → Walk w t s X n (i + 1) e
+    walk-on f = record { bundle = k .bundle; count = k .count; here = d .next; left = k .left ∙ pass w t s d f }
+
+  -- no part is left
+  pub walk-end : n ≤ i → true ≡ X
+  walk-end h = sym (k .left ∙ over w t s i (omega (arith, k .count)))
 
 -- the value of the part that a loop has reached
 pub list-at : {A : Type 0} {w : ℕ} {f : Format A} {s : List ℕ} {vs : List A} {i at e : ℕ} → Each f (partsOf w s) vs → Stepped w s i at e

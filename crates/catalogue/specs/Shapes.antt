@@ -1,7 +1,7 @@
 -- Whether bytes are a column, or a table: a test for each thing that the code looks at.
 -- Assumes nothing.
 use mathlib.Core.Path.{_≡_, refl, _∙_, ap}
-use mathlib.Core.Bool.{Bool, _&&_}
+use mathlib.Core.Bool.{Bool, and-true}
 use mathlib.Core.List.{List, [], _∷_}
 use Prim.Native.Nat.{ℕ}
 use lib.ListN.{length, getD}
@@ -18,8 +18,17 @@ use Rattle.rules.specs.declared.DataType.the-variants as data-type
 
 -- ---- a column
 
+abbrev pub isId : List ℕ → Bool
+isId p = eqb (length p) 8
+
 abbrev pub columnIdSpot : Spot columnId
 columnIdSpot = viaSpot (numberSpot 8) (λ n. record { 0 = n }) (λ i. i .0) (λ i. refl) (λ n h. refl)
+
+pub id-is : (p : List ℕ) → isThere (alone columnId .read p) ≡ isId p
+id-is p = field-is columnIdSpot p ∙ and-true (isId p)
+
+abbrev pub isColumn : List ℕ → Bool
+isColumn p = isThere (columnSchema 2 .read p)
 
 abbrev pub dataTypes : Enum DataType
 dataTypes = record { all = data-type.Int ∷ data-type.Text ∷ data-type.Bool ∷ []; index = dataTypeNo; found = data-type-found; order = refl; few = refl }

@@ -30,3 +30,45 @@ fn is_column(s: &[u8]) -> bool
     }
     utf8::is_utf8(bundle::part(s, 2, 1))
 }
+
+// Whether bytes are a list of columns.
+fn are_columns(s: &[u8]) -> bool
+    ensures { λ r. ⌜ r ≡ isThere (listOf 2 (columnSchema 2) .read (now (s .entry))) ⌝ }
+{
+    if !bundle::is_bundle(s, 2) {
+        return false;
+    }
+    let n = bundle::parts(s, 2);
+    let mut at = bundle::first(s, 2);
+    let mut i = 0;
+    while i < n {
+        let end = bundle::next(s, 2, i, at);
+        if !is_column(&s[at..end]) {
+            return false;
+        }
+        at = end;
+        i += 1;
+    }
+    true
+}
+
+// Whether bytes are a list of ids.
+fn are_ids(s: &[u8]) -> bool
+    ensures { λ r. ⌜ r ≡ isThere (listOf 2 (alone columnId) .read (now (s .entry))) ⌝ }
+{
+    if !bundle::is_bundle(s, 2) {
+        return false;
+    }
+    let n = bundle::parts(s, 2);
+    let mut at = bundle::first(s, 2);
+    let mut i = 0;
+    while i < n {
+        let end = bundle::next(s, 2, i, at);
+        if end - at != 8 {
+            return false;
+        }
+        at = end;
+        i += 1;
+    }
+    true
+}
