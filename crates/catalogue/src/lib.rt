@@ -72,3 +72,23 @@ fn are_ids(s: &[u8]) -> bool
     }
     true
 }
+
+// Whether bytes are a table, sound or not: its numbers (20 bytes), its name, its columns and its key.
+fn is_table_shape(s: &[u8]) -> bool
+    ensures { λ r. ⌜ r ≡ isThere (table .read (now (s .entry))) ⌝ }
+{
+    if !bundle::is_record(s, 2, 4) {
+        return false;
+    }
+    let numbers = bundle::part(s, 2, 0);
+    if numbers.len() != 20 {
+        return false;
+    }
+    if !utf8::is_utf8(bundle::part(s, 2, 1)) {
+        return false;
+    }
+    if !are_columns(bundle::part(s, 2, 2)) {
+        return false;
+    }
+    are_ids(bundle::part(s, 2, 3))
+}
