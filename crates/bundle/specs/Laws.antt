@@ -1,7 +1,7 @@
 -- What a reader of bundles cites: whether bytes read, as a test for each thing that the code looks at, and what was read, as an equation for each part.
 -- Assumes nothing.
 use mathlib.Core.Path.{_≡_, refl, sym, ap, ap₂, _∙_, subst}
-use mathlib.Core.Bool.{Bool, true, false, not, _&&_, and-true, and-assoc, false≢true}
+use mathlib.Core.Bool.{Bool, true, false, _&&_, and-true, and-assoc}
 use mathlib.Core.Option.{Option, none, some, Option·none-ne-some, Option·some-injective}
 use mathlib.Core.List.{List, [], _∷_}
 use Prim.Native.Nat.{ℕ, zero, suc, _+_, _-_, _≤_, _<_}
@@ -10,12 +10,13 @@ use native.Mathlib.Numerals.{add-one}
 use native.Mathlib.Omega.{arith}
 use lib.ListN.{length, take, drop, getD, length-drop, drop-of-length-le}
 use lib.Seq.{drop-cons, take-nil, length-take-le}
-use lib.Dec.{leb, ltb, eqb, eqb·zero-suc, eqb·suc-zero, eqb·suc-suc}
-use borrow.Author.Tests.{ltb-true, ltb-false, eqb-true, not-true, not-false}
+use lib.Dec.{ltb, eqb, eqb·zero-suc, eqb·suc-zero, eqb·suc-suc}
+use borrow.Author.Tests.{ltb-true, ltb-false, eqb-true}
 use Rattle.codec.specs.Format.{Format, Parts}
 use Rattle.codec.specs.Ways.{next, joined, eachJoin, endJoin, andJoin}
 use Rattle.codec.specs.Laws.{next-some}
 use Rattle.codec.specs.Layout.{pieces, bundle, listOf, each, end, _and_}
+use Rattle.bundle.specs.Decides.{Decides, all-of, all-cons, and-of}
 use Rattle.bundle.specs.Bundle.{isThere, orNil, partsOf, IsBundle, isRecord, IsRecord, PartAt, Stepped}
 
 -- ---- what was read
@@ -32,48 +33,10 @@ pub there-next : {A B : Type 0} (o : Option A) (f : A → B) → isThere (next o
 there-next none f = refl
 there-next (some a) f = refl
 
-pub and-of : (a b : Bool) → (a && b) ≡ true → (a ≡ true) × (b ≡ true)
-and-of true b e = (refl, e)
-and-of false b e = absurd (false≢true e)
-
 pub drop-take : (m n : ℕ) (s : List ℕ) → drop m (take (m + n) s) ≡ take n (drop m s)
 drop-take zero n s = rw (zero-add n)
 drop-take (suc m) n [] = rw (suc-add m n, take-nil n)
 drop-take (suc m) n (x ∷ s) = rw (suc-add m n) (drop-take m n s)
-
--- ---- a decision: tests one behind the other, as the code makes them
-
--- all of them
-abbrev pub both-of : List Bool → Bool
-both-of [] = true
-both-of (t ∷ []) = t
-both-of (t ∷ u ∷ ts) = t && both-of (u ∷ ts)
-
-both-cons : (t : Bool) (ts : List Bool) → both-of (t ∷ ts) ≡ (t && both-of ts)
-both-cons t [] = sym (and-true t)
-both-cons t (u ∷ ts) = refl
-
--- X is decided by the tests ts. A record, so that the tests of one that is at hand are found by their places.
-pub record Decides (X : Bool) (ts : List Bool) : Type 0 where
-  pub is : X ≡ both-of ts
-
--- a test that failed decides; one that passed leaves the others; the last one is the answer
-pub stop : {X t : Bool} {ts : List Bool} → Decides X (t ∷ ts) → t ≡ false → false ≡ X
-stop {t = t} {ts = []} d e = sym (d .is ∙ e)
-stop {t = t} {ts = u ∷ ts} d e = sym (d .is ∙ ap (λ (b : Bool). b && both-of (u ∷ ts)) e)
-
-pub on : {X t u : Bool} {ts : List Bool} → Decides X (t ∷ u ∷ ts) → t ≡ true → Decides X (u ∷ ts)
-on {u = u} {ts = ts} d e = record { is = d .is ∙ ap (λ (b : Bool). b && both-of (u ∷ ts)) e }
-
-pub last : {X t r : Bool} → Decides X (t ∷ []) → r ≡ t → r ≡ X
-last d e = e ∙ sym (d .is)
-
--- what `if !test { return false; }` tells of a test of which the callee said what it is
-pub failed : {r t : Bool} → r ≡ t → not r ≡ true → t ≡ false
-failed {r} e h = sym e ∙ not-true r h
-
-pub passed : {r t : Bool} → r ≡ t → not r ≡ false → t ≡ true
-passed {r} e h = sym e ∙ not-false r h
 
 -- t of each element
 abbrev pub all : {A : Type 0} → (A → Bool) → List A → Bool
@@ -112,6 +75,31 @@ module _ {A : Type 0} (w : ℕ) (p : Parts A) (s : List ℕ) where
 
   pub bundle-value : {v : A} → bundle w p .read s ≡ some v → p .join (partsOf w s) ≡ some v
   bundle-value e = sym (bundle-read (bundle-there e)) ∙ e
+
+module _ {A B : Type 0} (f : Format A) (p : Parts B) where
+  there-and : (o : Option A) (r : Option B) → isThere {A = A × B} (next o (λ a. next r (λ b. some (a, b)))) ≡ (isThere o && isThere r)
+  there-and none r = refl
+  there-and (some a) none = refl
+  there-and (some a) (some b) = refl
+
+  pub and-is : (x : List ℕ) (l : List (List ℕ)) → isThere ((f and p) .join (x ∷ l)) ≡ (isThere (f .read x) && isThere (p .join l))
+  and-is x l = there-and (f .read x) (p .join l)
+
+pub end-is : (l : List (List ℕ)) → isThere (end .join l) ≡ eqb (length l) 0
+end-is [] = refl
+end-is (x ∷ l) = sym (eqb·suc-zero (length l))
+
+-- n parts from number i on, by their numbers
+abbrev pub spelled : ℕ → ℕ → List (List ℕ) → List (List ℕ)
+spelled i zero l = []
+spelled i (suc n) l = getD l i [] ∷ spelled (suc i) n l
+
+pub spelled-is : (n i : ℕ) (l : List (List ℕ)) → length (drop i l) ≡ n → drop i l ≡ spelled i n l
+spelled-is zero i l h = let k : length l ≤ i = omega (arith, length-drop i l) in drop-of-length-le l {i = i} k
+spelled-is (suc n) i l h =
+    let k : i < length l = omega (arith, length-drop i l) in
+    let d : drop i l ≡ getD l i [] ∷ drop (suc i) l = drop-cons l i [] k in
+    d ∙ ap (λ (m : List (List ℕ)). getD l i [] ∷ m) (spelled-is n (suc i) l (omega (arith, ap length d)))
 
 -- where the last part ends, the bytes end
 pub part-end : {w : ℕ} {s : List ℕ} {i at : ℕ} → PartAt w s i at → length (partsOf w s) ≤ i → at ≡ length s
@@ -243,13 +231,9 @@ pub record Places {A : Type 0} (p : Parts A) : Type 1 where
   pub tests : List (List ℕ → Bool)
   -- what the parts from number i on say of a value: an equation for each part
   pub Are : ℕ → List (List ℕ) → A → Type 0
-  pub is : (l : List (List ℕ)) (i : ℕ) → isThere (p .join (drop i l)) ≡ (eqb (length (drop i l)) (length tests) && both-of (tried i tests l))
+  pub is : (l : List (List ℕ)) (i : ℕ) → isThere (p .join (drop i l)) ≡ (eqb (length (drop i l)) (length tests) && all-of (tried i tests l))
   pub value : (l : List (List ℕ)) (i : ℕ) (v : A) → p .join (drop i l) ≡ some v → Are i l v
   pub make : (l : List (List ℕ)) (i : ℕ) (v : A) → length (drop i l) ≡ length tests → Are i l v → p .join (drop i l) ≡ some v
-
-pub done-is : (m : List (List ℕ)) → isThere (endJoin m) ≡ (eqb (length m) 0 && true)
-done-is [] = refl
-done-is (x ∷ m) = rw (eqb·suc-zero (length m))
 
 pub done-make : (m : List (List ℕ)) (v : Unit {0}) → length m ≡ 0 → endJoin m ≡ some v
 done-make [] v h = refl
@@ -259,7 +243,7 @@ abbrev pub done : Places end
 done = record {
   tests = [];
   Are = λ i l v. Unit {0};
-  is = λ l i. done-is (drop i l);
+  is = λ l i. end-is (drop i l) ∙ sym (and-true (eqb (length (drop i l)) 0));
   value = λ l i v e. tt;
   make = λ l i v h a. done-make (drop i l) v h;
 }
@@ -270,12 +254,7 @@ module _ {A B : Type 0} (f : Format A) (t : List ℕ → Bool) (same : (x : List
   and-swap false true c = refl
   and-swap false false c = refl
 
-  there-and : (o : Option A) (r : Option B) → isThere {A = A × B} (next o (λ a. next r (λ b. some (a, b)))) ≡ (isThere o && isThere r)
-  there-and none r = refl
-  there-and (some a) none = refl
-  there-and (some a) (some b) = refl
-
-  pub part-is : (l : List (List ℕ)) (i : ℕ) → isThere ((f and p) .join (drop i l)) ≡ (eqb (length (drop i l)) (suc (length (q .tests))) && both-of (tried i (t ∷ q .tests) l))
+  pub part-is : (l : List (List ℕ)) (i : ℕ) → isThere ((f and p) .join (drop i l)) ≡ (eqb (length (drop i l)) (suc (length (q .tests))) && all-of (tried i (t ∷ q .tests) l))
   part-is l i = go (ltb i (length l)) refl
     where
       n : ℕ
@@ -284,11 +263,11 @@ module _ {A B : Type 0} (f : Format A) (t : List ℕ → Bool) (same : (x : List
       x : List ℕ
       x = getD l i []
 
-      go : (b : Bool) → ltb i (length l) ≡ b → isThere (andJoin f p (drop i l)) ≡ (eqb (length (drop i l)) (suc n) && both-of (tried i (t ∷ q .tests) l))
+      go : (b : Bool) → ltb i (length l) ≡ b → isThere (andJoin f p (drop i l)) ≡ (eqb (length (drop i l)) (suc n) && all-of (tried i (t ∷ q .tests) l))
       go true e =
-          rw (both-cons (t x) (tried (suc i) (q .tests) l), drop-cons l i [] (ltb-true i (length l) e), eqb·suc-suc (length (drop (suc i) l)) n)
-          (there-and (f .read x) (p .join (drop (suc i) l)) ∙ ap₂ (λ (a b : Bool). a && b) (same x) (q .is l (suc i))
-          ∙ and-swap (t x) (eqb (length (drop (suc i) l)) n) (both-of (tried (suc i) (q .tests) l)))
+          rw (all-cons (t x) (tried (suc i) (q .tests) l), drop-cons l i [] (ltb-true i (length l) e), eqb·suc-suc (length (drop (suc i) l)) n)
+          (and-is f p x (drop (suc i) l) ∙ ap₂ (λ (a b : Bool). a && b) (same x) (q .is l (suc i))
+          ∙ and-swap (t x) (eqb (length (drop (suc i) l)) n) (all-of (tried (suc i) (q .tests) l)))
       go false e = rw (drop-of-length-le l {i = i} (ltb-false i (length l) e), eqb·zero-suc n)
 
   pub part-value : (l : List (List ℕ)) (i : ℕ) (v : A × B) → (f and p) .join (drop i l) ≡ some v
@@ -334,21 +313,21 @@ is-record {w} {n} {s} e =
     record { bundle = record { there = p .0 }; count = eqb-true (length (partsOf w s)) n (p .1) }
 
 module _ {A : Type 0} (w : ℕ) {p : Parts A} (q : Places p) (s : List ℕ) where
-  pub record-is : isThere (bundle w p .read s) ≡ (isRecord w (length (q .tests)) s && both-of (tried 0 (q .tests) (partsOf w s)))
+  pub record-is : isThere (bundle w p .read s) ≡ (isRecord w (length (q .tests)) s && all-of (tried 0 (q .tests) (partsOf w s)))
   unfolding isRecord
   record-is =
       bundle-is w p s ∙ ap (λ (b : Bool). isThere (pieces w .read s) && b) (q .is (partsOf w s) 0)
-      ∙ sym (and-assoc (isThere (pieces w .read s)) (eqb (length (partsOf w s)) (length (q .tests))) (both-of (tried 0 (q .tests) (partsOf w s))))
+      ∙ sym (and-assoc (isThere (pieces w .read s)) (eqb (length (partsOf w s)) (length (q .tests))) (all-of (tried 0 (q .tests) (partsOf w s))))
 
   -- is it a record, and each part in turn
   abbrev pub recordTests : List Bool
   recordTests = isRecord w (length (q .tests)) s ∷ tried 0 (q .tests) (partsOf w s)
 
   pub record-decided : Decides (isThere (bundle w p .read s)) recordTests
-  record-decided = record { is = record-is ∙ sym (both-cons (isRecord w (length (q .tests)) s) (tried 0 (q .tests) (partsOf w s))) }
+  record-decided = record { is = record-is ∙ sym (all-cons (isRecord w (length (q .tests)) s) (tried 0 (q .tests) (partsOf w s))) }
 
   pub record-there : {v : A} → bundle w p .read s ≡ some v → IsRecord w (length (q .tests)) s
-  record-there e = is-record (and-of (isRecord w (length (q .tests)) s) (both-of (tried 0 (q .tests) (partsOf w s))) (sym record-is ∙ there-some e) .0)
+  record-there e = is-record (and-of (isRecord w (length (q .tests)) s) (all-of (tried 0 (q .tests) (partsOf w s))) (sym record-is ∙ there-some e) .0)
 
   -- an equation for each part
   pub record-values : {v : A} → bundle w p .read s ≡ some v → q .Are 0 (partsOf w s) v

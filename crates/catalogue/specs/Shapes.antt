@@ -1,6 +1,6 @@
 -- Whether bytes are a column, or a table: a test for each thing that the code looks at.
 -- Assumes nothing.
-use mathlib.Core.Path.{_≡_, refl, _∙_, ap}
+use mathlib.Core.Path.{_≡_, refl, _∙_}
 use mathlib.Core.Bool.{Bool, and-true}
 use mathlib.Core.List.{List, [], _∷_}
 use Prim.Native.Nat.{ℕ}
@@ -10,10 +10,11 @@ use Rattle.codec.specs.Format.{Enum}
 use Rattle.codec.specs.Layout.{text, alone, bools, listOf, end, _and_}
 use Rattle.utf8.specs.Decide.{isUtf8}
 use Rattle.bundle.specs.Bundle.{isThere, partsOf, isRecord}
-use Rattle.bundle.specs.Laws.{Places, part, part-as, done, via-record-decided, Decides}
+use Rattle.bundle.specs.Decides.{Decides}
+use Rattle.bundle.specs.Laws.{Places, part, part-as, done, via-record-decided}
 use Rattle.bundle.specs.Fields.{Spot, numberSpot, codeSpot, bothSpot, viaSpot, field-is, text-is}
 use Rattle.catalogue.specs.Layout.{tableNumbers, table}
-use Rattle.value.specs.Parts.{columnId, dataTypeNo, data-type-found, dataType, columnNumbers, columnSchema}
+use Rattle.value.specs.Parts.{columnId, dataTypeNo, data-type-found, columnNumbers, columnSchema}
 use Rattle.rules.specs.declared.DataType.{DataType}
 use Rattle.rules.specs.declared.DataType.the-variants as data-type
 

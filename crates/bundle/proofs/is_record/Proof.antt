@@ -1,12 +1,11 @@
 -- `bundle::is_record` meets its contract.
 -- Assumes nothing.
 use borrow.Author.Needs.{needs}
-use native.Mathlib.Omega.{arith}
-use mathlib.Core.Path.{_≡_, refl, ap, _∙_}
+use mathlib.Core.Path.{ap}
 use Prim.Native.Nat.{ℕ}
 use lib.Dec.{eqb}
-use Rattle.bundle.specs.Bundle.{isRecord}
-use Rattle.bundle.specs.Laws.{stop, on, last, failed, passed, shape-decided}
+use Rattle.bundle.specs.Decides.{stop, on, last, failed, passed}
+use Rattle.bundle.specs.Laws.{shape-decided}
 use Rattle.bundle.proofs.is_record.Statement.{statement}
 use Rattle.bundle.proofs.is_record.Tie as tie
 

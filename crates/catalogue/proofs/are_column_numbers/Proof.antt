@@ -3,7 +3,7 @@
 use borrow.Author.Needs.{needs}
 use borrow.Author.Tests.{ne-eqb, eq-eqb, le-ltb, lt-ltb}
 use mathlib.Core.Path.{refl}
-use Rattle.bundle.specs.Laws.{stop, on, last}
+use Rattle.bundle.specs.Decides.{stop, on, last}
 use Rattle.catalogue.specs.Shapes.{column-numbers-decided}
 use Rattle.catalogue.proofs.are_column_numbers.Statement.{statement}
 use Rattle.catalogue.proofs.are_column_numbers.Tie as tie

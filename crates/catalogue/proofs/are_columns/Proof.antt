@@ -4,8 +4,9 @@ use borrow.Author.Needs.{needs}
 use mathlib.Core.Path.{refl, sym}
 use Prim.Native.Nat.{_-_}
 use Rattle.codec.specs.Layout.{listOf}
-use Rattle.bundle.specs.Bundle.{isThere, IsBundle}
-use Rattle.bundle.specs.Laws.{failed, passed, list-not, Walk, walk, walk-stop, walk-on, walk-end}
+use Rattle.bundle.specs.Bundle.{isThere}
+use Rattle.bundle.specs.Decides.{failed, passed}
+use Rattle.bundle.specs.Laws.{list-not, Walk, walk, walk-stop, walk-on, walk-end}
 use Rattle.value.specs.Parts.{columnSchema}
 use Rattle.catalogue.specs.Shapes.{isColumn}
 use Rattle.catalogue.proofs.are_columns.Statement.{statement}

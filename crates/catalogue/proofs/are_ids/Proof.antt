@@ -5,8 +5,9 @@ use borrow.Author.Tests.{ne-eqb, eq-eqb}
 use mathlib.Core.Path.{sym, _∙_}
 use Prim.Native.Nat.{_-_}
 use Rattle.codec.specs.Layout.{alone, listOf}
-use Rattle.bundle.specs.Bundle.{isThere, IsBundle}
-use Rattle.bundle.specs.Laws.{failed, passed, list-not, Walk, walk, walk-stop, walk-on, walk-end, step-size}
+use Rattle.bundle.specs.Bundle.{isThere}
+use Rattle.bundle.specs.Decides.{failed, passed}
+use Rattle.bundle.specs.Laws.{list-not, Walk, walk, walk-stop, walk-on, walk-end, step-size}
 use Rattle.value.specs.Parts.{columnId}
 use Rattle.catalogue.specs.Shapes.{isId, id-is}
 use Rattle.catalogue.proofs.are_ids.Statement.{statement}

@@ -8,7 +8,8 @@ use Prim.Native.Nat.{ℕ}
 use Rattle.codec.specs.Layout.{alone}
 use Rattle.utf8.specs.Decide.{isUtf8}
 use Rattle.bundle.specs.Bundle.{isThere, IsRecord}
-use Rattle.bundle.specs.Laws.{stop, on, last, failed, passed, is-record}
+use Rattle.bundle.specs.Decides.{stop, on, last, failed, passed}
+use Rattle.bundle.specs.Laws.{is-record}
 use Rattle.value.specs.Parts.{columnNumbers}
 use Rattle.catalogue.specs.Shapes.{column-decided}
 use Rattle.catalogue.proofs.is_column.Statement.{statement}

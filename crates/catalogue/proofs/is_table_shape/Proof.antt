@@ -8,7 +8,8 @@ use Prim.Native.Nat.{ℕ}
 use lib.ListN.{length, drop}
 use Rattle.utf8.specs.Decide.{isUtf8}
 use Rattle.bundle.specs.Bundle.{isThere, IsRecord}
-use Rattle.bundle.specs.Laws.{Decides, stop, on, last, failed, passed, is-record}
+use Rattle.bundle.specs.Decides.{Decides, stop, on, last, failed, passed}
+use Rattle.bundle.specs.Laws.{is-record}
 use Rattle.catalogue.specs.Layout.{table}
 use Rattle.catalogue.specs.Shapes.{areColumns, areIds, tableTests, table-decided}
 use Rattle.catalogue.proofs.is_table_shape.Statement.{statement}
