@@ -1,19 +1,19 @@
 -- How a bundle's reading goes: tests on lengths, and plain cuts where they all pass. `Layout.pieces` is a chain of readers, each of which may
 -- fail; here the chain is one test and one list.
 -- Assumes nothing.
-use mathlib.Core.Path.{_≡_, refl, sym, ap, ap₂, _∙_}
+use mathlib.Core.Path.{_≡_, refl, sym, ap, _∙_}
 use mathlib.Core.Bool.{Bool, true, false, cond, _&&_, false≢true}
 use mathlib.Core.Option.{Option, none, some}
-use mathlib.Core.List.{List, [], _∷_, _++_}
+use mathlib.Core.List.{List, [], _∷_}
 use Prim.Native.Nat.{ℕ, zero, suc, _+_, _-_, _*_, _≤_, _<_}
-use native.Mathlib.Nat.{zero-mul, suc-mul, add-zero, suc-add, zero-add, sub-zero}
+use native.Mathlib.Nat.{zero-mul, suc-mul}
 use native.Mathlib.Omega.{arith}
-use lib.ListN.{length, take, drop, getD, length-take, length-drop, take-append-drop}
-use lib.Seq.{take-take, drop-drop, drop-nil, take-nil, length-take-le, getD-drop, take-all}
+use lib.ListN.{length, take, drop, length-take, length-drop}
+use lib.Seq.{take-take, drop-drop}
 use lib.Dec.{leb, eqb, leb·zero, eqb·suc-zero}
-use borrow.Author.Tests.{le-leb, lt-leb, leb-true, leb-false, eq-eqb, ne-eqb, eqb-true, eqb-false}
+use borrow.Author.Tests.{le-leb, lt-leb, leb-true, leb-false, eq-eqb, ne-eqb}
 use Rattle.wire.specs.Le.{num}
-use Rattle.codec.specs.Ways.{next, joined, numberRead, rowRead, cutRead, headedRead}
+use Rattle.codec.specs.Ways.{next, numberRead, rowRead, cutRead, headedRead}
 use Rattle.codec.specs.Layout.{number, row, cut, pieces}
 use Rattle.bundle.specs.Laws.{drop-take}
 

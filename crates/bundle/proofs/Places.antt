@@ -1,26 +1,23 @@
 -- Where the parts of a bundle stand, and the turns of the loop that adds the lengths up.
 -- Assumes nothing.
 use mathlib.Core.Path.{_≡_, refl, sym, ap, ap₂, _∙_}
-use mathlib.Core.Bool.{Bool, true, false, cond, _&&_, false≢true}
-use mathlib.Core.Option.{Option, none, some}
+use mathlib.Core.Bool.{Bool, true, false, cond, _&&_}
+use mathlib.Core.Option.{none, some}
 use mathlib.Core.List.{List, [], _∷_, _++_}
 use Prim.Native.Nat.{ℕ, zero, suc, _+_, _-_, _*_, _^_, _≤_, _<_}
-use native.Mathlib.Nat.{zero-mul, suc-mul, add-zero, mul-le-mul, mul-le-mul-right, pow-le-pow-right, lt-of-lt-of-le, add-sub-cancel-left}
+use native.Mathlib.Nat.{zero-mul, suc-mul, mul-le-mul, mul-le-mul-right, pow-le-pow-right, lt-of-lt-of-le, add-sub-cancel-left}
 use native.Mathlib.Numerals.{add-one}
 use native.Mathlib.Omega.{arith}
-use lib.ListN.{length, take, drop, getD, length-take, length-drop, length-append, take-append-drop}
+use lib.ListN.{length, take, drop, getD, length-drop, length-append, take-append-drop}
 use lib.Seq.{drop-drop, drop-cons, take-at, drop-at, length-take-le}
 use lib.Dec.{leb, eqb, lit<}
-use borrow.Author.Tests.{le-leb, lt-leb, leb-true, leb-false, eq-eqb, ne-eqb, eqb-true, eqb-false}
+use borrow.Author.Tests.{le-leb, lt-leb, leb-true, eq-eqb, ne-eqb, eqb-true, eqb-false}
 use Rattle.wire.specs.Le.{num}
 use Rattle.codec.specs.Ways.{joined}
 use Rattle.codec.specs.Layout.{pieces}
 use Rattle.bundle.specs.Bundle.{isThere, orNil, partsOf, IsBundle, PartAt, Stepped}
+use Rattle.bundle.specs.Decides.{and-of}
 use Rattle.bundle.proofs.Cuts.{lengths, fills, cuts, count, head, sizes, whole, pieces-of, pieces-read}
-
-and-of : (a b : Bool) → (a && b) ≡ true → (a ≡ true) × (b ≡ true)
-and-of true b e = (refl, e)
-and-of false b e = absurd (false≢true e)
 
 same-eqb : (a b x y : ℕ) → (a ≡ b → x ≡ y) → (x ≡ y → a ≡ b) → eqb a b ≡ eqb x y
 same-eqb a b x y f g = go (eqb a b) refl

@@ -6,17 +6,16 @@ use mathlib.Core.Logic.{_⊎_, inl, inr}
 use mathlib.Core.Option.{Option, none, some, Option·none-ne-some, Option·some-injective}
 use mathlib.Core.List.{List, [], _∷_}
 use Prim.Native.Nat.{ℕ, zero, suc, _+_, _-_, _≤_, _<_}
-use native.Mathlib.Numerals.{add-one}
 use native.Mathlib.Omega.{arith}
 use lib.ListN.{length, take, drop, getD, getElem?, length-take, length-drop}
 use lib.Seq.{drop-cons, drop-drop, take-all, take-take}
 use lib.Dec.{leb, ltb, eqb, eqb·suc-zero, leb·suc-suc}
-use borrow.Author.Tests.{le-leb, lt-leb, leb-true, leb-false, lt-ltb, le-ltb, eq-eqb, ne-eqb, eqb-true, eqb-false}
+use borrow.Author.Tests.{leb-true, leb-false, lt-ltb, le-ltb, eq-eqb, ne-eqb, eqb-true, eqb-false}
 use mir.Syntax.{w64}
 use mir.Val.{toZ}
 use Rattle.wire.specs.Le.{num}
 use Rattle.codec.specs.Format.{Format, Fixed, Enum, Coded}
-use Rattle.codec.specs.Ways.{next, numberRead, rawRead, codeRead, headedRead, choiceRead, kindRead, someRead, Case, Some, made, spread}
+use Rattle.codec.specs.Ways.{next, numberRead, codeRead, someRead, Case, Some, made, spread}
 use Rattle.codec.specs.Laws.{next-some}
 use Rattle.codec.specs.Layout.{text, nothing, number, code, via, checked, viaField, checkedField, int64, headed, both, optional}
 use Rattle.codec.specs.Sums.{choice, kinds, beside, recode, either, sum}

@@ -1,3 +1,4 @@
 pub mod Bundle
+pub mod Decides
 pub mod Laws
 pub mod Fields

@@ -1,1 +1,94 @@
-// The catalogue's image. `specs/Layout.antt` has its layout and the two round trips; there is no code here yet.
+// The catalogue's image. `specs/Layout.antt` has its layout and the two round trips.
+ghost use mathlib.Core.Path.{_≡_};
+ghost use Rattle.codec.specs.Layout.{alone, listOf};
+ghost use Rattle.bundle.specs.Bundle.{isThere};
+ghost use Rattle.value.specs.Parts.{columnId, columnNumbers, columnSchema};
+ghost use Rattle.catalogue.specs.Layout.{tableNumbers, table};
+
+// Whether bytes are a column's numbers: an id of 8 bytes, a type code and a mark.
+fn are_column_numbers(s: &[u8]) -> bool
+    ensures { λ r. ⌜ r ≡ isThere (alone columnNumbers .read (now (s .entry))) ⌝ }
+{
+    if s.len() != 10 {
+        return false;
+    }
+    if s[8] >= 3 {
+        return false;
+    }
+    s[9] < 2
+}
+
+// Whether bytes are a column: its numbers and its name.
+fn is_column(s: &[u8]) -> bool
+    ensures { λ r. ⌜ r ≡ isThere (columnSchema 2 .read (now (s .entry))) ⌝ }
+{
+    if !bundle::is_record(s, 2, 2) {
+        return false;
+    }
+    if !are_column_numbers(bundle::part(s, 2, 0)) {
+        return false;
+    }
+    utf8::is_utf8(bundle::part(s, 2, 1))
+}
+
+// Whether bytes are a list of columns.
+fn are_columns(s: &[u8]) -> bool
+    ensures { λ r. ⌜ r ≡ isThere (listOf 2 (columnSchema 2) .read (now (s .entry))) ⌝ }
+{
+    if !bundle::is_bundle(s, 2) {
+        return false;
+    }
+    let n = bundle::parts(s, 2);
+    let mut at = bundle::first(s, 2);
+    let mut i = 0;
+    while i < n {
+        let end = bundle::next(s, 2, i, at);
+        if !is_column(&s[at..end]) {
+            return false;
+        }
+        at = end;
+        i += 1;
+    }
+    true
+}
+
+// Whether bytes are a list of ids.
+fn are_ids(s: &[u8]) -> bool
+    ensures { λ r. ⌜ r ≡ isThere (listOf 2 (alone columnId) .read (now (s .entry))) ⌝ }
+{
+    if !bundle::is_bundle(s, 2) {
+        return false;
+    }
+    let n = bundle::parts(s, 2);
+    let mut at = bundle::first(s, 2);
+    let mut i = 0;
+    while i < n {
+        let end = bundle::next(s, 2, i, at);
+        if end - at != 8 {
+            return false;
+        }
+        at = end;
+        i += 1;
+    }
+    true
+}
+
+// Whether bytes are a table, sound or not: its numbers (20 bytes), its name, its columns and its key.
+fn is_table_shape(s: &[u8]) -> bool
+    ensures { λ r. ⌜ r ≡ isThere (table .read (now (s .entry))) ⌝ }
+{
+    if !bundle::is_record(s, 2, 4) {
+        return false;
+    }
+    let numbers = bundle::part(s, 2, 0);
+    if numbers.len() != 20 {
+        return false;
+    }
+    if !utf8::is_utf8(bundle::part(s, 2, 1)) {
+        return false;
+    }
+    if !are_columns(bundle::part(s, 2, 2)) {
+        return false;
+    }
+    are_ids(bundle::part(s, 2, 3))
+}
