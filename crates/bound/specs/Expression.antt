@@ -37,7 +37,7 @@ leaf-made (BoundLeaf.column c) = refl
 leaf-made (BoundLeaf.literal v) = refl
 
 abbrev pub leafCodes : Coded BoundLeaf
-leafCodes = sum leafCases whichLeaf leaf-made ((λ c. refl), ((λ v. refl), tt))
+leafCodes = sum leafCases whichLeaf leaf-made refl
 
 abbrev pub unaries : List BoundUnary
 unaries =

@@ -112,8 +112,7 @@ bound-made boundShowTransactions = refl
 unfoldable pub boundStatement : Format BoundStatement
 boundStatement =
     choice
-    (sum boundCases whichBound bound-made
-    ((λ x. refl), ((λ x. refl), ((λ x. refl), ((λ x. refl), ((λ x. refl), ((λ x. refl), ((λ x. refl), ((λ x. refl), ((λ x. refl), ((λ x. refl), tt)))))))))))
+    (sum boundCases whichBound bound-made refl)
     refl
 
 -- ---- what a reader of the images wants to know

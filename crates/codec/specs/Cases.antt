@@ -5,12 +5,12 @@ use mathlib.Core.Bool.{Bool, true, false}
 use mathlib.Core.Option.{Option, none, some}
 use mathlib.Core.List.{List, [], _∷_}
 use Prim.Native.Nat.{ℕ}
-use lib.IntN.{ℤ, pos, negsuc}
+use lib.IntN.{ℤ, negsuc}
 use Rattle.utf8.specs.Decide.{isUtf8}
 use lib.ListN.{getElem?}
 use Rattle.tree.specs.Tree.{Tree, Tree.leaf, Tree.un, Tree.bin, size}
 use Rattle.codec.specs.Format.{Format, Enum, Coded}
-use Rattle.codec.specs.Layout.{text, nothing, number, mark, alone, int64, headed, both, optional, end, _and_, listOf, recordOf}
+use Rattle.codec.specs.Layout.{text, nothing, number, mark, alone, int64, optional, end, _and_, listOf, recordOf, via}
 use Rattle.codec.specs.Sums.{Case, case, Some, nth, made, sum, choice, kinds}
 use Rattle.codec.specs.Run.{run, labels, labelsWith}
 
@@ -53,6 +53,15 @@ two-parts-of-three : entry .read (2 ∷ 0 ∷ 4 ∷ 0 ∷ 1 ∷ 0 ∷ 7 ∷ 1 �
 unfolding isUtf8
 two-parts-of-three = refl
 
+-- the same as a declared record
+record Entry : Type 0 where
+  id : ℕ
+  open? : Bool
+  name : List ℕ
+
+abbrev entries : Format (List Entry)
+entries = listOf 2 (via entry (λ p. record { id = p .0; open? = p .1 .0; name = p .1 .1 .0 }) (λ e. (e .id, (e .open?, (e .name, tt)))) (λ e. refl) (λ p h. refl))
+
 -- ---- a sum
 
 data Value : Type 0 where
@@ -77,7 +86,7 @@ made-which (Truth b) = refl
 made-which Null = refl
 
 abbrev value : Format Value
-value = choice (sum values which made-which ((λ z. refl), ((λ s. refl), ((λ b. refl), ((λ u. refl), tt))))) refl
+value = choice (sum values which made-which refl) refl
 
 minus-two : value .write (Int (negsuc 1)) ≡ 0 ∷ 254 ∷ 255 ∷ 255 ∷ 255 ∷ 255 ∷ 255 ∷ 255 ∷ 255 ∷ []
 minus-two = refl
@@ -136,10 +145,14 @@ ops = record { all = plus ∷ minus ∷ []; index = place; found = found-op; ord
 
 -- kinds 0 to 2 are leaves, 3 and 4 have one operand, 5 and 6 two
 abbrev leafCodes : Coded Leaf
-leafCodes = sum leafs leaf? made-leaf ((λ s. refl), ((λ s. refl), ((λ u. refl), tt)))
+leafCodes = sum leafs leaf? made-leaf refl
 
 abbrev expression : Format (Tree Leaf Op Op)
 expression = run 2 (labels leafCodes (kinds ops) (kinds ops) refl)
+
+-- nothing at all, or an expression
+abbrev condition : Format (Option (Tree Leaf Op Op))
+condition = optional expression refl
 
 -- a + -1
 abbrev sum-of-two : Tree Leaf Op Op

@@ -3,8 +3,8 @@
 -- `Layout.antt` has the formats by name.
 -- Assumes nothing.
 use mathlib.Core.Path.{_≡_, refl, sym, _∙_, ap}
-use mathlib.Core.Bool.{Bool, true}
-use mathlib.Core.Option.{Option, none, some, Option·some-injective}
+use mathlib.Core.Bool.{true}
+use mathlib.Core.Option.{Option, none, some, Option·none-ne-some, Option·some-injective}
 use mathlib.Core.List.{List, [], _∷_, map}
 use Prim.Native.Nat.{ℕ, zero, suc, _<_}
 use lib.ListN.{length, getElem?}
@@ -40,12 +40,16 @@ pub record Parts (A : Type 0) : Type 1 where
   pub back : (l : List (List ℕ)) (a : A) → Every Bytes l → join l ≡ some a → (l ≡ split a) × Ok a
   pub bytes : (a : A) → Ok a → Every Bytes (split a)
 
--- a value as a code below `count` and what follows it: `form i` is what follows the code i
+-- a value as a code below `count` and what follows it; what follows is read by the code
 pub record Coded (T : Type 0) : Type 1 where
   pub count : ℕ
   pub code : T → ℕ
-  pub form : ℕ → Format T
-  pub coded : (i : ℕ) (t : T) → form i .Ok t → (code t ≡ i) × (i < count)
+  pub write : T → List ℕ
+  pub read : ℕ → List ℕ → Option T
+  pub Ok : T → Type 0
+  pub there : (t : T) → Ok t → read (code t) (write t) ≡ some t
+  pub back : (i : ℕ) (s : List ℕ) (t : T) → Bytes s → read i s ≡ some t → (i ≡ code t) × (s ≡ write t) × Ok t
+  pub bytes : (t : T) → Ok t → (code t < count) × Bytes (write t)
 
 -- i, i + 1 .., n numbers
 abbrev pub countFrom : ℕ → ℕ → List ℕ
@@ -73,6 +77,9 @@ module _ {A : Type 0} (f : Format A) where
 
   pub read-image : {s : List ℕ} {v : A} → Bytes s → f .read s ≡ some v → Image s v
   read-image {s} {v} b e = let k = f .back s v b e in record { bytes = k .0; ok = k .1 }
+
+  pub no-image : {s : List ℕ} {v : A} → f .read s ≡ none → Image s v → ⊥
+  no-image {v = v} e i = Option·none-ne-some v (sym e ∙ image-read i)
 
   -- one value for each image
   pub unique : {s : List ℕ} {v w : A} → Image s v → Image s w → v ≡ w

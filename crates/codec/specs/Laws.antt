@@ -5,23 +5,23 @@ use mathlib.Core.Bool.{Bool, true, false, cond}
 use mathlib.Core.Option.{Option, none, some, Option·none-ne-some, Option·some-injective}
 use mathlib.Core.Logic.{_⊎_, inl, inr}
 use mathlib.Core.List.{List, [], _∷_, _++_, map}
-use Prim.Native.Nat.{ℕ, zero, suc, _+_, _*_, _^_, _%_, _≤_, _<_}
+use Prim.Native.Nat.{ℕ, zero, suc, _+_, _-_, _*_, _^_, _≤_, _<_}
 use native.Mathlib.Nat.{zero-mul, suc-mul, mod-lt}
 use native.Mathlib.Omega.{arith}
-use lib.ListN.{length, take, drop, getD, getElem?, length-map, length-append, length-drop, take-append-drop}
+use lib.ListN.{length, take, drop, getElem?, length-map, length-append, take-append-drop}
 use lib.Seq.{take-at, drop-at, length-take-le}
-use lib.Dec.{leb, eqb, lit<}
-use borrow.Author.Tests.{le-leb, leb-true, eq-eqb, eqb-true}
+use lib.Dec.{leb, ltb, eqb, lit<}
+use borrow.Author.Tests.{le-leb, leb-true, eq-eqb, eqb-true, lt-ltb, le-ltb, ltb-false}
 use lib.IntN.{ℤ}
 use lib.Signed.{mag}
 use mir.Syntax.{w64}
 use mir.Val.{toZ, ofZ}
 use mir.ValLaws.{toZ-fits, ofZ-toZ}
 use Rattle.wire.specs.Le.{Bytes, le, num, length-le, num-le, le-num, num-lt, drop-bytes, take-bytes, cons-bytes, tail-bytes}
-use Rattle.utf8.specs.Utf8.{In, Two, Three, Three.e0, Three.e1-ec, Three.ed, Three.ee-ef, Four, Four.f0, Four.f1-f3, Four.f4, Utf8, Utf8.none, Utf8.one, Utf8.two, Utf8.three, Utf8.four}
+use Rattle.utf8.specs.Utf8.{Three, Three.e0, Three.e1-ec, Three.ed, Three.ee-ef, Four, Four.f0, Four.f1-f3, Four.f4, Utf8, Utf8.none, Utf8.one, Utf8.two, Utf8.three, Utf8.four}
 use Rattle.utf8.specs.Decide.{isUtf8, utf8-of}
 use Rattle.codec.specs.Format.{Format, Fixed, Parts, Coded, Every, Enum, countFrom}
-use Rattle.codec.specs.Ways.{next, joined, rawRead, numberRead, nothingRead, codeRead, boolIndex, headedWrite, headedRead, HeadedOk, rowRead, cutRead, optionalWrite, optionalRead, OptionalOk, InsideOk, endJoin, andJoin, eachJoin, choiceRead, kindRead, left?, right?}
+use Rattle.codec.specs.Ways.{next, joined, rawRead, numberRead, nothingRead, codeRead, boolIndex, headedWrite, headedRead, HeadedOk, rowWrite, rowRead, cutRead, PiecesOk, optionalWrite, optionalRead, OptionalOk, endJoin, andJoin, eachJoin, choiceRead, kindRead, besideRead, eitherCode, eitherWrite, eitherRead, EitherOk, Case, Some, Spread, spread, someCode, someWrite, someRead, SomeOk}
 
 -- ---- what a step that succeeded tells
 
@@ -167,31 +167,28 @@ pub both-wide : {A B : Type 0} (f : Fixed A) (g : Fixed B) (p : A × B) → Head
 both-wide f g p h = length-append (f .form .write (p .0)) (g .form .write (p .1)) ∙ ap₂ (λ (x y : ℕ). x + y) (f .wide (p .0) (h .0)) (g .wide (p .1) (h .1))
 
 module _ {A : Type 0} (f : Fixed A) where
-  abbrev pub rowWrite : List A → List ℕ
-  rowWrite l = joined (map (f .form .write) l)
-
-  pub row-wide : (l : List A) → Every (f .form .Ok) l → length (rowWrite l) ≡ length l * f .width
+  pub row-wide : (l : List A) → Every (f .form .Ok) l → length (rowWrite f l) ≡ length l * f .width
   row-wide [] h = sym (zero-mul (f .width))
-  row-wide (a ∷ l) h = omega (arith, length-append (f .form .write a) (rowWrite l), f .wide a (h .0), row-wide l (h .1), suc-mul (length l) (f .width))
+  row-wide (a ∷ l) h = omega (arith, length-append (f .form .write a) (rowWrite f l), f .wide a (h .0), row-wide l (h .1), suc-mul (length l) (f .width))
 
-  pub row-there : (l : List A) → Every (f .form .Ok) l → rowRead f (length l) (rowWrite l) ≡ some l
+  pub row-there : (l : List A) → Every (f .form .Ok) l → rowRead f (length l) (rowWrite f l) ≡ some l
   row-there [] h = refl
   row-there (a ∷ l) h =
       let w : length (f .form .write a) ≡ f .width = f .wide a (h .0) in
-      rw (take-at (f .form .write a) (rowWrite l) (f .width) w, drop-at (f .form .write a) (rowWrite l) (f .width) w, f .form .there a (h .0), row-there l (h .1))
+      rw (take-at (f .form .write a) (rowWrite f l) (f .width) w, drop-at (f .form .write a) (rowWrite f l) (f .width) w, f .form .there a (h .0), row-there l (h .1))
 
-  pub row-back : (n : ℕ) (s : List ℕ) (l : List A) → Bytes s → rowRead f n s ≡ some l → (s ≡ rowWrite l) × ((length l ≡ n) × Every (f .form .Ok) l)
-  row-back zero [] l b e = subst (λ (z : List A). ([] ≡ rowWrite z) × ((length z ≡ zero) × Every (f .form .Ok) z)) (Option·some-injective [] l e) (refl, (refl, tt))
+  pub row-back : (n : ℕ) (s : List ℕ) (l : List A) → Bytes s → rowRead f n s ≡ some l → (s ≡ rowWrite f l) × ((length l ≡ n) × Every (f .form .Ok) l)
+  row-back zero [] l b e = subst (λ (z : List A). ([] ≡ rowWrite f z) × ((length z ≡ zero) × Every (f .form .Ok) z)) (Option·some-injective [] l e) (refl, (refl, tt))
   row-back zero (x ∷ s) l b e = absurd (Option·none-ne-some l e)
   row-back (suc n) s l b e =
       next-some (f .form .read (take (f .width) s)) (λ a. next (rowRead f n (drop (f .width) s)) (λ m. some (a ∷ m))) e
       (λ a e₁ h. next-some (rowRead f n (drop (f .width) s)) (λ m. some (a ∷ m)) h (λ m e₂ k.
       let p = header-front f s a b e₁ in
       let q = row-back n (drop (f .width) s) m (drop-bytes (f .width) b) e₂ in
-      subst (λ (z : List A). (s ≡ rowWrite z) × ((length z ≡ suc n) × Every (f .form .Ok) z)) (Option·some-injective (a ∷ m) l k)
+      subst (λ (z : List A). (s ≡ rowWrite f z) × ((length z ≡ suc n) × Every (f .form .Ok) z)) (Option·some-injective (a ∷ m) l k)
       (sym (take-append-drop (f .width) s) ∙ ap₂ (λ (x z : List ℕ). x ++ z) (p .0) (q .0), (ap suc (q .1 .0), (p .1, q .1 .1)))))
 
-  pub row-bytes : (l : List A) → Every (f .form .Ok) l → Bytes (rowWrite l)
+  pub row-bytes : (l : List A) → Every (f .form .Ok) l → Bytes (rowWrite f l)
   row-bytes [] h = nil-bytes
   row-bytes (a ∷ l) h = append-bytes (f .form .bytes a (h .0)) (row-bytes l (h .1))
 
@@ -258,27 +255,6 @@ module _ {A : Type 0} (f : Format A) where
   optional-bytes none h = nil-bytes
   optional-bytes (some a) h = f .bytes a h
 
-module _ {A T : Type 0} (f : Format A) (make : A → T) (out : T → Option A) (mo : (a : A) → out (make a) ≡ some a) (om : (t : T) (a : A) → out t ≡ some a → make a ≡ t) where
-  pub inside-there : (t : T) → InsideOk f (out t) → next (f .read (optionalWrite f (out t))) (λ a. some (make a)) ≡ some t
-  inside-there t = go (out t) refl
-    where
-      go : (o : Option A) → out t ≡ o → InsideOk f o → next (f .read (optionalWrite f o)) (λ a. some (make a)) ≡ some t
-      go none e h = absurd h
-      go (some a) e h = rw (f .there a h) (ap some (om t a e))
-
-  pub inside-back : (s : List ℕ) (t : T) → Bytes s → next (f .read s) (λ a. some (make a)) ≡ some t → (s ≡ optionalWrite f (out t)) × InsideOk f (out t)
-  inside-back s t b e =
-      next-some (f .read s) (λ a. some (make a)) e (λ a e₁ h.
-      let p : out t ≡ some a = ap out (sym (Option·some-injective (make a) t h)) ∙ mo a in
-      rw p (f .back s a b e₁))
-
-  pub inside-bytes : (t : T) → InsideOk f (out t) → Bytes (optionalWrite f (out t))
-  inside-bytes t = go (out t)
-    where
-      go : (o : Option A) → InsideOk f o → Bytes (optionalWrite f o)
-      go none h = absurd h
-      go (some a) h = f .bytes a h
-
 -- ---- parts
 
 pub end-there : (u : Unit {0}) → Unit {0} → endJoin [] ≡ some u
@@ -330,57 +306,126 @@ pub fit-lengths : (w : ℕ) (l : List (List ℕ)) → Every (λ n. n < 256 ^ w) 
 fit-lengths w [] h = tt
 fit-lengths w (s ∷ l) h = (h .0, fit-lengths w l (h .1))
 
--- ---- codes
-
-module _ {T : Type 0} (c : Coded T) where
-  pub choice-back : (s : List ℕ) (t : T) → Bytes s → choiceRead c s ≡ some t → (s ≡ c .code t ∷ c .form (c .code t) .write t) × c .form (c .code t) .Ok t
-  choice-back [] t b e = absurd (Option·none-ne-some t e)
-  choice-back (i ∷ s) t b e =
-      let k = c .form i .back s t (tail-bytes b) e in
-      subst (λ (j : ℕ). (i ∷ s ≡ j ∷ c .form j .write t) × c .form j .Ok t) (sym (c .coded i t (k .1) .0))
-      (ap (λ (l : List ℕ). i ∷ l) (k .0), k .1)
-
-  pub choice-bytes : leb (c .count) 256 ≡ true → (t : T) → c .form (c .code t) .Ok t → Bytes (c .code t ∷ c .form (c .code t) .write t)
-  choice-bytes few t h = cons-bytes (omega (arith, c .coded (c .code t) t h .1, leb-true (c .count) 256 few)) (c .form (c .code t) .bytes t h)
-
 -- ---- bundles
 
 module _ (w : ℕ) where
-  abbrev pub PiecesOk : List (List ℕ) → Type 0
-  PiecesOk l = (length l < 256 ^ w) × Every (λ s. length s < 256 ^ w) l × Every Bytes l
-
   -- a count, as many lengths, as many pieces
   pub pieces-back : (p : ℕ × (List ℕ × List (List ℕ))) (l : List (List ℕ))
       → (p .0 < 256 ^ w) × (((length (p .1 .0) ≡ p .0) × Every (λ n. n < 256 ^ w) (p .1 .0)) × ((map length (p .1 .1) ≡ p .1 .0) × Every Bytes (p .1 .1)))
-      → some (p .1 .1) ≡ some l → (p ≡ (length l, (map length l, l))) × PiecesOk l
+      → some (p .1 .1) ≡ some l → (p ≡ (length l, (map length l, l))) × PiecesOk w l
   pieces-back p l h e =
-      subst (λ (z : List (List ℕ)). (p ≡ (length z, (map length z, z))) × PiecesOk z) (Option·some-injective (p .1 .1) l e)
+      subst (λ (z : List (List ℕ)). (p ≡ (length z, (map length z, z))) × PiecesOk w z) (Option·some-injective (p .1 .1) l e)
       (let a : map length (p .1 .1) ≡ p .1 .0 = h .1 .1 .0 in
       let n : p .0 ≡ length (p .1 .1) = sym (h .1 .0 .0) ∙ ap length (sym a) ∙ length-map (p .1 .1) length in
       (ap₂ (λ (x : ℕ) (y : List ℕ). (x, (y, p .1 .1))) n (sym a), (rw (← n) (h .0), fit-lengths w (p .1 .1) (rw a (h .1 .0 .1)), h .1 .1 .1)))
 
-  pub bundle-back : {A : Type 0} (p : Parts A) (l : List (List ℕ)) (a : A) → PiecesOk l → p .join l ≡ some a
+  pub bundle-back : {A : Type 0} (p : Parts A) (l : List (List ℕ)) (a : A) → PiecesOk w l → p .join l ≡ some a
       → (l ≡ p .split a) × ((length (p .split a) < 256 ^ w) × Every (λ s. length s < 256 ^ w) (p .split a) × p .Ok a)
   bundle-back p l a h e =
       let k = p .back l a (h .2) e in
       (k .0, (rw (k .0) at (h .0), rw (k .0) at (h .1), k .1))
 
-module _ {A : Type 0} (e : Enum A) (i : ℕ) where
-  pub kind-there : (a : A) → e .index a ≡ i → kindRead e i [] ≡ some a
-  kind-there a h = rw (← h) (e .found a)
+-- ---- codes
 
-  pub kind-back : (s : List ℕ) (a : A) → Bytes s → kindRead e i s ≡ some a → (s ≡ []) × (e .index a ≡ i)
-  kind-back [] a b h = (refl, at-place e i a h .0)
-  kind-back (x ∷ s) a b h = absurd (Option·none-ne-some a h)
+module _ {T : Type 0} (c : Coded T) where
+  pub choice-back : (s : List ℕ) (t : T) → Bytes s → choiceRead c s ≡ some t → (s ≡ c .code t ∷ c .write t) × c .Ok t
+  choice-back [] t b e = absurd (Option·none-ne-some t e)
+  choice-back (i ∷ s) t b e = let k = c .back i s t (tail-bytes b) e in (ap₂ (λ (x : ℕ) (l : List ℕ). x ∷ l) (k .0) (k .1), k .2)
 
-  pub kind-coded : (a : A) → e .index a ≡ i → (e .index a ≡ i) × (i < length (e .all))
-  kind-coded a h = (h, at-place e i a (kind-there a h) .1)
+  pub choice-bytes : leb (c .count) 256 ≡ true → (t : T) → c .Ok t → Bytes (c .code t ∷ c .write t)
+  choice-bytes few t h = let k = c .bytes t h in cons-bytes (omega (arith, leb-true (c .count) 256 few)) (k .1)
 
-module _ {A B : Type 0} where
-  pub left-is : (x : A ⊎ B) (a : A) → left? x ≡ some a → inl a ≡ x
-  left-is (inl x) a e = ap inl (sym (Option·some-injective x a e))
-  left-is (inr x) a e = absurd (Option·none-ne-some a e)
+module _ {A : Type 0} (e : Enum A) where
+  pub kind-back : (i : ℕ) (s : List ℕ) (a : A) → Bytes s → kindRead e i s ≡ some a → (i ≡ e .index a) × (s ≡ []) × Unit {0}
+  kind-back i [] a b h = (sym (at-place e i a h .0), refl, tt)
+  kind-back i (x ∷ s) a b h = absurd (Option·none-ne-some a h)
 
-  pub right-is : (x : A ⊎ B) (b : B) → right? x ≡ some b → inr b ≡ x
-  right-is (inl x) b e = absurd (Option·none-ne-some b e)
-  right-is (inr x) b e = ap inr (sym (Option·some-injective x b e))
+  pub kind-bytes : (a : A) → Unit {0} → (e .index a < length (e .all)) × Bytes []
+  kind-bytes a h = (at-place e (e .index a) a (e .found a) .1, nil-bytes)
+
+-- what follows one code
+pub after : {T : Type 0} → Coded T → ℕ → Format T
+after c i = record {
+  write = c .write;
+  read = c .read i;
+  Ok = λ t. (i ≡ c .code t) × c .Ok t;
+  there = λ t h. rw (h .0) (c .there t (h .1));
+  back = λ s t b e. let k = c .back i s t b e in (k .1, (k .0, k .2));
+  bytes = λ t h. c .bytes t (h .1) .1;
+}
+
+module _ {A T : Type 0} (f : Fixed A) (c : Coded T) where
+  pub beside-there : (p : A × T) → f .form .Ok (p .0) × c .Ok (p .1) → besideRead f c (c .code (p .1)) (f .form .write (p .0) ++ c .write (p .1)) ≡ some p
+  unfolding after
+  beside-there p h = headed-there f (λ a. after c (c .code (p .1))) p (h .0, (refl, h .1))
+
+  pub beside-back : (i : ℕ) (s : List ℕ) (p : A × T) → Bytes s → besideRead f c i s ≡ some p → (i ≡ c .code (p .1)) × (s ≡ f .form .write (p .0) ++ c .write (p .1)) × (f .form .Ok (p .0) × c .Ok (p .1))
+  unfolding after
+  beside-back i s p b e = let k = headed-back f (λ a. after c i) s p b e in (k .1 .1 .0, k .0, (k .1 .0, k .1 .1 .1))
+
+  pub beside-bytes : (p : A × T) → f .form .Ok (p .0) × c .Ok (p .1) → (c .code (p .1) < c .count) × Bytes (f .form .write (p .0) ++ c .write (p .1))
+  beside-bytes p h = let k = c .bytes (p .1) (h .1) in (k .0, append-bytes (f .form .bytes (p .0) (h .0)) (k .1))
+
+module _ {A T : Type 0} (c : Coded A) (f : A → T) (g : T → A) where
+  pub recode-there : ((t : T) → f (g t) ≡ t) → (t : T) → c .Ok (g t) → next (c .read (c .code (g t)) (c .write (g t))) (λ a. some (f a)) ≡ some t
+  recode-there fg t h = rw (c .there (g t) h) (ap some (fg t))
+
+  pub recode-back : ((a : A) → g (f a) ≡ a) → (i : ℕ) (s : List ℕ) (t : T) → Bytes s → next (c .read i s) (λ a. some (f a)) ≡ some t
+      → (i ≡ c .code (g t)) × (s ≡ c .write (g t)) × c .Ok (g t)
+  recode-back gf i s t b e =
+      next-some (c .read i s) (λ a. some (f a)) e (λ a e₁ h.
+      let p : a ≡ g t = sym (gf a) ∙ ap g (Option·some-injective (f a) t h) in
+      rw p at (c .back i s a b e₁))
+
+module _ {A B : Type 0} (c : Coded A) (d : Coded B) where
+  pub either-there : (x : A ⊎ B) → EitherOk c d x → eitherRead c d (eitherCode c d x) (eitherWrite c d x) ≡ some x
+  either-there (inl a) h = rw (lt-ltb (c .code a) (c .count) (c .bytes a h .0), c .there a h)
+  either-there (inr b) h =
+      let z : c .count + d .code b - c .count ≡ d .code b = omega arith in
+      rw (le-ltb (c .count + d .code b) (c .count) (omega arith), z, d .there b h)
+
+  pub either-back : (i : ℕ) (s : List ℕ) (x : A ⊎ B) → Bytes s → eitherRead c d i s ≡ some x → (i ≡ eitherCode c d x) × (s ≡ eitherWrite c d x) × EitherOk c d x
+  either-back i s x b = go (ltb i (c .count)) refl
+    where
+      Is : A ⊎ B → Type 0
+      Is y = (i ≡ eitherCode c d y) × (s ≡ eitherWrite c d y) × EitherOk c d y
+
+      go : (t : Bool) → ltb i (c .count) ≡ t → cond t (next (c .read i s) (λ a. some (inl a))) (next (d .read (i - c .count) s) (λ b. some (inr b))) ≡ some x → Is x
+      go true e h = next-some (c .read i s) (λ a. some (inl a)) h (λ a e₁ k. subst Is (Option·some-injective (inl a) x k) (c .back i s a b e₁))
+      go false e h =
+          next-some (d .read (i - c .count) s) (λ y. some (inr y)) h (λ y e₁ k.
+          let m = d .back (i - c .count) s y b e₁ in
+          subst Is (Option·some-injective (inr y) x k) (omega (arith, ltb-false i (c .count) e), m .1, m .2))
+
+  pub either-bytes : (x : A ⊎ B) → EitherOk c d x → (eitherCode c d x < c .count + d .count) × Bytes (eitherWrite c d x)
+  either-bytes (inl a) h = let k = c .bytes a h in (omega arith, k .1)
+  either-bytes (inr b) h = let k = d .bytes b h in (omega arith, k .1)
+
+-- ---- cases
+
+module _ {T : Type 0} where
+  pub spread-one : {X : Type 0} (l : List (Case T)) (f g : Some l → X) → spread l f ≡ spread l g → (x : Some l) → f x ≡ g x
+  spread-one [] f g e x = absurd x
+  spread-one {X} (c ∷ l) f g e (inl x) = ap (λ (p : Spread (c ∷ l) X). p .0 x) e
+  spread-one {X} (c ∷ l) f g e (inr y) = spread-one l (λ z. f (inr z)) (λ z. g (inr z)) (ap (λ (p : Spread (c ∷ l) X). p .1) e) y
+
+  pub some-there : (l : List (Case T)) (x : Some l) → SomeOk l x → someRead l (someCode l x) (someWrite l x) ≡ some x
+  some-there [] x h = absurd x
+  some-there (c ∷ l) (inl x) h = rw (c .form .there x h)
+  some-there (c ∷ l) (inr y) h = rw (some-there l y h)
+
+  pub some-back : (l : List (Case T)) (i : ℕ) (s : List ℕ) (x : Some l) → Bytes s → someRead l i s ≡ some x → (i ≡ someCode l x) × (s ≡ someWrite l x) × SomeOk l x
+  some-back [] i s x b e = absurd x
+  some-back (c ∷ l) zero s x b e =
+      next-some (c .form .read s) (λ y. some (inl y)) e (λ y e₁ h.
+      let k = c .form .back s y b e₁ in
+      subst (λ (z : Some (c ∷ l)). (zero ≡ someCode (c ∷ l) z) × (s ≡ someWrite (c ∷ l) z) × SomeOk (c ∷ l) z) (Option·some-injective (inl y) x h) (refl, k .0, k .1))
+  some-back (c ∷ l) (suc i) s x b e =
+      next-some (someRead l i s) (λ y. some (inr y)) e (λ y e₁ h.
+      let k = some-back l i s y b e₁ in
+      subst (λ (z : Some (c ∷ l)). (suc i ≡ someCode (c ∷ l) z) × (s ≡ someWrite (c ∷ l) z) × SomeOk (c ∷ l) z) (Option·some-injective (inr y) x h) (ap suc (k .0), k .1, k .2))
+
+  pub some-bytes : (l : List (Case T)) (x : Some l) → SomeOk l x → (someCode l x < length l) × Bytes (someWrite l x)
+  some-bytes [] x h = absurd x
+  some-bytes (c ∷ l) (inl x) h = (omega arith, c .form .bytes x h)
+  some-bytes (c ∷ l) (inr y) h = let k = some-bytes l y h in (omega arith, k .1)

@@ -1,23 +1,20 @@
 -- The formats by name. docs/IMAGES.md says what each is; `Ways.antt` has how they write and read, `Laws.antt` their laws.
 -- Assumes nothing.
-use mathlib.Core.Path.{_≡_, refl, sym, ap, ap₂, _∙_}
+use mathlib.Core.Path.{_≡_, refl, ap}
 use mathlib.Core.Bool.{Bool, true, false, cond}
-use mathlib.Core.Option.{Option, none, some, Option·none-ne-some, Option·some-injective}
-use mathlib.Core.Logic.{_⊎_, inl, inr}
+use mathlib.Core.Option.{Option, none, some}
 use mathlib.Core.List.{List, [], _∷_, map}
-use Prim.Native.Nat.{ℕ, zero, suc, _+_, _*_, _^_, _<_}
-use native.Mathlib.Omega.{arith}
+use Prim.Native.Nat.{ℕ, _+_, _*_, _^_, _<_}
 use lib.ListN.{length, length-map}
-use lib.Dec.{leb}
 use lib.IntN.{ℤ}
 use lib.Signed.{mag}
 use mir.Syntax.{w64}
 use mir.Val.{toZ, ofZ}
 use mir.ValLaws.{ofZ-fits}
 use mir.Facts.{toZ-ofZ}
-use Rattle.wire.specs.Le.{Bytes, le, num, length-le, cons-bytes}
+use Rattle.wire.specs.Le.{Bytes, le, length-le, cons-bytes}
 use Rattle.utf8.specs.Decide.{isUtf8}
-use Rattle.codec.specs.Format.{Format, Fixed, Parts, Coded, Every, Enum}
+use Rattle.codec.specs.Format.{Format, Fixed, Parts, Every, Enum}
 use Rattle.codec.specs.Ways as W
 use Rattle.codec.specs.Laws as L
 
@@ -130,8 +127,11 @@ module _ {A B : Type 0} (c : Fixed A) (f : A → Option B) (g : B → A) (Ok′ 
   abbrev pub refineField : Fixed B
   refineField = record { width = c .width; form = refine (c .form) f g Ok′ fg ok gf; wide = λ b h. c .wide (g b) (ok b h) }
 
+abbrev pub checkedField : {A : Type 0} → Fixed A → (A → Bool) → Fixed A
+checkedField c test = record { width = c .width; form = checked (c .form) test; wide = λ a h. c .wide a (h .0) }
+
 abbrev pub viaField : {A B : Type 0} (c : Fixed A) (f : A → B) (g : B → A) → ((b : B) → f (g b) ≡ b) → ((a : A) → c .form .Ok a → g (f a) ≡ a) → Fixed B
-viaField c f g fg gf = refineField c (λ a. some (f a)) g (λ b. c .form .Ok (g b)) (λ b h. ap some (fg b)) (λ b h. h) (L.via-back (c .form) f g gf)
+viaField c f g fg gf = record { width = c .width; form = via (c .form) f g fg gf; wide = λ b h. c .wide (g b) h }
 
 -- a signed number of 8 bytes, two's complement
 abbrev pub int64 : Fixed ℤ
@@ -160,7 +160,7 @@ abbrev pub row : {A : Type 0} → Fixed A → ℕ → Fixed (List A)
 row f n = record {
   width = n * f .width;
   form = record {
-    write = L.rowWrite f;
+    write = W.rowWrite f;
     read = W.rowRead f n;
     Ok = λ l. (length l ≡ n) × Every (f .form .Ok) l;
     there = λ l h. rw (← (h .0)) (L.row-there f l (h .1));
@@ -231,7 +231,7 @@ each f = record {
 -- how many parts, the length of each, the parts
 abbrev pub pieces : ℕ → Format (List (List ℕ))
 pieces w = refine (headed (number w) (λ n. headed (row (number w) n) cut)) (λ p. some (p .1 .1)) (λ l. (length l, (map length l, l)))
-    (λ l. (length l < 256 ^ w) × Every (λ s. length s < 256 ^ w) l × Every Bytes l)
+    (W.PiecesOk w)
     (λ l h. refl)
     (λ l h. (h .0, ((length-map l length, L.lengths-fit w l (h .1)), (refl, h .2))))
     (L.pieces-back w)

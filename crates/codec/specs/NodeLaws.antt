@@ -1,21 +1,20 @@
 -- The laws of `Nodes.antt`, for `Run.antt`.
 -- Assumes nothing.
 use mathlib.Core.Path.{_≡_, refl, sym, ap, ap₂, _∙_, subst}
-use mathlib.Core.Bool.{Bool, true, false, cond}
-use mathlib.Core.Option.{Option, none, some, Option·none-ne-some, Option·some-injective}
+use mathlib.Core.Option.{some, Option·none-ne-some, Option·some-injective}
 use mathlib.Core.List.{List, [], _∷_, _++_, map, append-assoc, append-nil}
-use Prim.Native.Nat.{ℕ, zero, suc, _+_, _-_, _^_, _≤_, _<_}
+use Prim.Native.Nat.{ℕ, suc, _+_, _-_, _^_, _≤_, _<_}
 use native.Mathlib.Omega.{arith}
-use lib.ListN.{length, take, drop, length-append, length-drop, length-map, take-append-drop}
+use lib.ListN.{length, length-append, length-drop, length-map, take-append-drop}
 use lib.Seq.{take-at, drop-at, length-take-le}
-use lib.Dec.{leb, eqb, lit<}
+use lib.Dec.{leb, eqb}
 use borrow.Author.Tests.{le-leb, leb-true, eq-eqb, eqb-true}
 use Rattle.wire.specs.Le.{Bytes, drop-bytes, take-bytes}
 use Rattle.tree.specs.Tree.{Tree, Tree.leaf, Tree.un, Tree.bin, size}
 use Rattle.codec.specs.Format.{Format, Every}
 use Rattle.codec.specs.Ways.{next, joined, cutRead}
 use Rattle.codec.specs.Laws.{cond-some, next-some, cut-there, cut-back, append-bytes}
-use Rattle.codec.specs.Nodes.{Labels, Label, Label.leafLabel, Label.unLabel, Label.binLabel, nodesOf, spanned, push, grow, only, treeOf, Holds, total, sums, steps, contentLength, rowsOf, contentsOf, contentTotal, mend, NodeOk, imagesOf, labelsOf, cutAtRead, RunOk, contentSize, runRead, runWrite}
+use Rattle.codec.specs.Nodes.{Labels, Label, Label.leafLabel, Label.unLabel, Label.binLabel, nodesOf, spanned, push, grow, only, treeOf, Holds, total, sums, steps, contentLength, rowsOf, contentsOf, contentTotal, mend, NodeOk, imagesOf, labelsOf, cutAtRead, RunOk, runRead, runWrite}
 
 -- ---- trees and their nodes
 

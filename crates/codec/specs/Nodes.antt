@@ -1,6 +1,5 @@
 -- Trees as runs of nodes, children before parents, and nodes as rows with their contents behind them: what `Run.antt` writes and reads.
 -- Assumes nothing: these are definitions.
-use mathlib.Core.Path.{_≡_}
 use mathlib.Core.Bool.{cond}
 use mathlib.Core.Option.{Option, none, some}
 use mathlib.Core.List.{List, [], _∷_, _++_, map}

@@ -5,21 +5,21 @@
 -- is the node's content. The codes of `uns` are counted on from those of `leafs`, and those of `bins` from both.
 -- Assumes nothing.
 use mathlib.Core.Path.{_≡_, refl, ap}
-use mathlib.Core.Bool.{Bool, true, false}
-use mathlib.Core.Option.{Option, none, some}
+use mathlib.Core.Bool.{true}
+use mathlib.Core.Option.{some}
 use mathlib.Core.Logic.{_⊎_, inl, inr}
-use mathlib.Core.List.{List, _++_, map}
-use Prim.Native.Nat.{ℕ, suc, _+_, _-_, _^_, _≤_, _<_}
+use mathlib.Core.List.{List, map}
+use Prim.Native.Nat.{ℕ, suc, _+_, _^_, _≤_, _<_}
 use native.Mathlib.Omega.{arith}
 use lib.ListN.{length, length-append}
-use lib.Dec.{leb, ltb}
+use lib.Dec.{leb}
 use Rattle.wire.specs.Le.{Bytes}
 use Rattle.tree.specs.Tree.{Tree}
 use Rattle.codec.specs.Format.{Format, Fixed, Coded, Every}
 use Rattle.codec.specs.Ways as W
 use Rattle.codec.specs.Laws as L
 use Rattle.codec.specs.Layout.{raw, number, both, row, headed, refine}
-use Rattle.codec.specs.Sums.{choice, beside, recode, either, eitherForm}
+use Rattle.codec.specs.Sums.{choice, beside, recode, either}
 use Rattle.codec.specs.Nodes as N
 use Rattle.codec.specs.Nodes.{Label, Label.leafLabel, Label.unLabel, Label.binLabel, Labels}
 use Rattle.codec.specs.NodeLaws as K
@@ -82,29 +82,24 @@ shapes l u b = recode (either l (either u b)) toLabel ofLabel to-of of-to
 
 -- at least j bytes follow each code
 abbrev pub Front : {T : Type 0} → ℕ → Coded T → Type 0
-Front {T} j c = (i : ℕ) (t : T) → c .form i .Ok t → j ≤ length (c .form i .write t)
+Front {T} j c = (t : T) → c .Ok t → j ≤ length (c .write t)
 
-pub either-front : {A B : Type 0} (j : ℕ) (c : Coded A) (d : Coded B) → Front j c → Front j d → Front j (either c d)
-either-front {A} {B} j c d p q = λ i t. go i (ltb i (c .count)) t
-  where
-    go : (i : ℕ) (x : Bool) (t : A ⊎ B) → eitherForm c d i x .Ok t → j ≤ length (eitherForm c d i x .write t)
-    go i true (inl a) h = p i a h
-    go i true (inr b) h = absurd h
-    go i false (inl a) h = absurd h
-    go i false (inr b) h = q (i - c .count) b h
+pub shapes-front : {L U B : Type 0} (j : ℕ) (l : Coded L) (u : Coded U) (b : Coded B) → Front j l → Front j u → Front j b → Front j (shapes l u b)
+shapes-front j l u b p q r (leafLabel x) h = p x h
+shapes-front j l u b p q r (unLabel x) h = q x h
+shapes-front j l u b p q r (binLabel x) h = r x h
 
 pub beside-front : {A T : Type 0} (f : Fixed A) (c : Coded T) → Front (f .width) (beside f c)
-beside-front f c i t h = omega (arith, length-append (f .form .write (t .0)) (c .form i .write (t .1)), f .wide (t .0) (h .0))
+beside-front f c t h = omega (arith, length-append (f .form .write (t .0)) (c .write (t .1)), f .wide (t .0) (h .0))
 
 -- the code and j bytes stand in the node
 abbrev pub labelled : {T : Type 0} (j : ℕ) (c : Coded T) → leb (c .count) 256 ≡ true → Front j c → Labels T
-labelled j c few front = record { head = suc j; form = choice c few; front = λ x h. let k = front (c .code x) x h in omega arith }
+labelled j c few front = record { head = suc j; form = choice c few; front = λ x h. let k = front x h in omega arith }
 
 module _ {L U B : Type 0} (l : Coded L) (u : Coded U) (b : Coded B) where
   abbrev pub labels : leb (l .count + (u .count + b .count)) 256 ≡ true → Labels (Label L U B)
-  labels few = labelled 0 (shapes l u b) few (λ i t h. omega arith)
+  labels few = labelled 0 (shapes l u b) few (λ t h. omega arith)
 
   abbrev pub labelsWith : {A : Type 0} → Fixed A → leb (l .count + (u .count + b .count)) 256 ≡ true → Labels (Label (A × L) (A × U) (A × B))
   labelsWith f few = labelled (f .width) (shapes (beside f l) (beside f u) (beside f b)) few
-      (λ i t h. either-front (f .width) (beside f l) (either (beside f u) (beside f b)) (beside-front f l)
-      (either-front (f .width) (beside f u) (beside f b) (beside-front f u) (beside-front f b)) i (ofLabel t) h)
+      (shapes-front (f .width) (beside f l) (beside f u) (beside f b) (beside-front f l) (beside-front f u) (beside-front f b))

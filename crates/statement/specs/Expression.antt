@@ -65,8 +65,7 @@ leaf-made Leaf.otherExpression = refl
 
 abbrev pub leafCodes : Coded Leaf
 leafCodes =
-    sum leafCases whichLeaf leaf-made
-    ((λ x. refl), ((λ x. refl), ((λ x. refl), ((λ x. refl), ((λ x. refl), ((λ x. refl), ((λ x. refl), ((λ x. refl), ((λ x. refl), tt)))))))))
+    sum leafCases whichLeaf leaf-made refl
 
 -- ---- nodes with one operand
 

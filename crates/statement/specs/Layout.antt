@@ -96,7 +96,7 @@ object-name-made qualified = refl
 object-name-made (plain n) = refl
 
 unfoldable pub objectName : Format ObjectName
-objectName = choice (sum objectNameCases whichObjectName object-name-made ((λ u. refl), ((λ n. refl), tt))) refl
+objectName = choice (sum objectNameCases whichObjectName object-name-made refl) refl
 
 -- ---- CREATE TABLE
 
@@ -163,7 +163,7 @@ constraint-made otherConstraint = refl
 constraint-made (primaryKey m names) = refl
 
 unfoldable pub constraint : Format Constraint
-constraint = choice (sum constraintCases whichConstraint constraint-made ((λ u. refl), ((λ p. refl), tt))) refl
+constraint = choice (sum constraintCases whichConstraint constraint-made refl) refl
 
 unfoldable pub create : Format CreateTable
 create =
@@ -195,7 +195,7 @@ source-body-made notValues = refl
 source-body-made (values m rows) = refl
 
 unfoldable pub sourceBody : Format SourceBody
-sourceBody = choice (sum sourceBodyCases whichSourceBody source-body-made ((λ u. refl), ((λ p. refl), tt))) refl
+sourceBody = choice (sum sourceBodyCases whichSourceBody source-body-made refl) refl
 
 unfoldable pub source : Format Source
 source = via (headed mark (λ m. sourceBody)) (λ p. record { clauses = p .0; body = p .1 }) (λ q. (q .clauses, q .body)) (λ q. refl) (λ p h. refl)
@@ -223,7 +223,7 @@ relation-made indirect = refl
 relation-made (direct m n) = refl
 
 unfoldable pub relation : Format Relation
-relation = choice (sum relationCases whichRelation relation-made ((λ u. refl), ((λ p. refl), tt))) refl
+relation = choice (sum relationCases whichRelation relation-made refl) refl
 
 unfoldable pub tableWithJoins : Format TableWithJoins
 tableWithJoins =
@@ -245,7 +245,7 @@ item-made star = refl
 item-made (column n) = refl
 
 unfoldable pub item : Format Item
-item = choice (sum itemCases whichItem item-made ((λ u. refl), ((λ u. refl), ((λ n. refl), tt)))) refl
+item = choice (sum itemCases whichItem item-made refl) refl
 
 abbrev pub fromCases : List (Case From)
 fromCases = case nothing (λ u. notOne) ∷ case tableWithJoins one ∷ []
@@ -259,7 +259,7 @@ from-made notOne = refl
 from-made (one t) = refl
 
 unfoldable pub selectFrom : Format From
-selectFrom = choice (sum fromCases whichFrom from-made ((λ u. refl), ((λ t. refl), tt))) refl
+selectFrom = choice (sum fromCases whichFrom from-made refl) refl
 
 -- a condition: nothing at all, or an expression
 abbrev pub condition : Format (Option Expr)
@@ -285,7 +285,7 @@ query-body-made notPlain = refl
 query-body-made (plainSelect s) = refl
 
 unfoldable pub queryBody : Format QueryBody
-queryBody = choice (sum queryBodyCases whichQueryBody query-body-made ((λ u. refl), ((λ s. refl), tt))) refl
+queryBody = choice (sum queryBodyCases whichQueryBody query-body-made refl) refl
 
 unfoldable pub selection : Format Query
 selection = via (headed mark (λ m. queryBody)) (λ p. record { clauses = p .0; body = p .1 }) (λ q. (q .clauses, q .body)) (λ q. refl) (λ p h. refl)
@@ -304,7 +304,7 @@ target-made tuple = refl
 target-made (target n) = refl
 
 unfoldable pub assignmentTarget : Format Target
-assignmentTarget = choice (sum targetCases whichTarget target-made ((λ u. refl), ((λ n. refl), tt))) refl
+assignmentTarget = choice (sum targetCases whichTarget target-made refl) refl
 
 unfoldable pub assignment : Format Assignment
 assignment =
@@ -345,7 +345,7 @@ delete-from-made (from notOne) = refl
 delete-from-made (from (one t)) = refl
 
 unfoldable pub deleteFrom : Format DeleteFrom
-deleteFrom = choice (sum deleteFromCases whichDeleteFrom delete-from-made ((λ u. refl), ((λ u. refl), ((λ t. refl), tt)))) refl
+deleteFrom = choice (sum deleteFromCases whichDeleteFrom delete-from-made refl) refl
 
 unfoldable pub deletion : Format Delete
 deletion =
@@ -398,8 +398,7 @@ kind-made otherKind = refl
 unfoldable pub kind : Format Kind
 kind =
     choice
-    (sum kindCases whichKind kind-made
-    ((λ x. refl), ((λ x. refl), ((λ x. refl), ((λ x. refl), ((λ x. refl), ((λ x. refl), ((λ x. refl), ((λ x. refl), ((λ x. refl), ((λ x. refl), tt)))))))))))
+    (sum kindCases whichKind kind-made refl)
     refl
 
 unfoldable pub statement : Format Statement

@@ -73,7 +73,7 @@ value-made (Value.bool b) = refl
 value-made Value.null = refl
 
 unfoldable pub value : Format Value
-value = choice (sum values whichValue value-made ((λ z. refl), ((λ s. refl), ((λ b. refl), ((λ u. refl), tt))))) refl
+value = choice (sum values whichValue value-made refl) refl
 
 -- ---- a column: its numbers (id, type, nullable), and its name; counts have w bytes
 
