@@ -222,35 +222,13 @@ leaf-written Leaf.null = record { bytes = refl; ok = λ h. tt; utf8 = λ h. refl
 leaf-written Leaf.otherLiteral = record { bytes = refl; ok = λ h. tt; utf8 = λ h. refl }
 leaf-written Leaf.otherExpression = record { bytes = refl; ok = λ h. tt; utf8 = λ h. refl }
 
-un-written : (o : Unary) → Written (unLabel o)
-unfolding headKind headText unKind isUtf8
-un-written parentheses = record { bytes = refl; ok = λ h. refl; utf8 = λ h. refl }
-un-written (nullTest false) = record { bytes = refl; ok = λ h. refl; utf8 = λ h. refl }
-un-written (nullTest true) = record { bytes = refl; ok = λ h. refl; utf8 = λ h. refl }
-un-written (unary Positive) = record { bytes = refl; ok = λ h. refl; utf8 = λ h. refl }
-un-written (unary Negative) = record { bytes = refl; ok = λ h. refl; utf8 = λ h. refl }
-un-written (unary Not) = record { bytes = refl; ok = λ h. refl; utf8 = λ h. refl }
-un-written otherUnary = record { bytes = refl; ok = λ h. refl; utf8 = λ h. refl }
-
-operator-written : (o : BoundBinaryOperator) → Written (binLabel (binary o))
+bin-written : (o : Binary) → Written (binLabel o)
 unfolding headKind headText binKind isUtf8
-operator-written op.Add = record { bytes = refl; ok = λ h. refl; utf8 = λ h. refl }
-operator-written op.Subtract = record { bytes = refl; ok = λ h. refl; utf8 = λ h. refl }
-operator-written op.Multiply = record { bytes = refl; ok = λ h. refl; utf8 = λ h. refl }
-operator-written op.Divide = record { bytes = refl; ok = λ h. refl; utf8 = λ h. refl }
-operator-written op.Modulo = record { bytes = refl; ok = λ h. refl; utf8 = λ h. refl }
-operator-written op.Equal = record { bytes = refl; ok = λ h. refl; utf8 = λ h. refl }
-operator-written op.NotEqual = record { bytes = refl; ok = λ h. refl; utf8 = λ h. refl }
-operator-written op.GreaterThan = record { bytes = refl; ok = λ h. refl; utf8 = λ h. refl }
-operator-written op.GreaterThanOrEqual = record { bytes = refl; ok = λ h. refl; utf8 = λ h. refl }
-operator-written op.LessThan = record { bytes = refl; ok = λ h. refl; utf8 = λ h. refl }
-operator-written op.LessThanOrEqual = record { bytes = refl; ok = λ h. refl; utf8 = λ h. refl }
-operator-written op.And = record { bytes = refl; ok = λ h. refl; utf8 = λ h. refl }
-operator-written op.Or = record { bytes = refl; ok = λ h. refl; utf8 = λ h. refl }
+bin-written (binary o) = record { bytes = ap (λ (k : ℕ). k ∷ []) (omega arith); ok = λ h. tt; utf8 = λ h. refl }
+bin-written otherBinary = record { bytes = refl; ok = λ h. tt; utf8 = λ h. refl }
 
 pub written : (x : Head) → Written x
-unfolding headKind headText binKind isUtf8
+unfolding headKind headText unKind isUtf8
 written (leafLabel l) = leaf-written l
-written (unLabel o) = un-written o
-written (binLabel (binary o)) = operator-written o
-written (binLabel otherBinary) = record { bytes = refl; ok = λ h. refl; utf8 = λ h. refl }
+written (unLabel o) = record { bytes = refl; ok = λ h. tt; utf8 = λ h. refl }
+written (binLabel o) = bin-written o

@@ -1,3 +1,6 @@
 pub mod Place
 pub mod Heads
 pub mod Trees
+pub mod Layout
+pub mod Images
+pub mod Laws

@@ -1,5 +1,5 @@
 -- An expression's run by positions: where a node's bytes lie (docs/IMAGES.md, "An expression's node"), and where a tree stands among the nodes.
--- Only `nodeCount`, `endAt`, `startAt` and `nodeAt`, the accessors of src/layout.rt and `Bytes.antt` know a byte position: all else sees nodes by
+-- Only `nodeCount`, `endAt`, `startAt` and `nodeAt`, the accessors of src/layout.rt and `Layout.antt` know a byte position: all else sees nodes by
 -- their numbers.
 -- Assumes nothing: these are definitions.
 use mathlib.Core.Path.{_≡_}

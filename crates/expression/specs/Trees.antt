@@ -82,7 +82,7 @@ module _ (v : ℕ → Node) where
   -- the nodes from a on are those of the list
   unfoldable pub Lies : ℕ → List (Head × ℕ) → Type 0
   Lies a [] = Unit {0}
-  Lies a (x ∷ l) = (v a ≡ nodeOf x) × Lies (a + 1) l
+  Lies a (x ∷ l) = (v a ≡ nodeOf x) × Lies (suc a) l
 
   lies-at : {a b : ℕ} (l : List (Head × ℕ)) → a ≡ b → Lies a l → Lies b l
   lies-at l e h = subst (λ (j : ℕ). Lies j l) e h
@@ -91,13 +91,13 @@ module _ (v : ℕ → Node) where
   unfolding Lies
   lies-split a [] m h = (tt, lies-at m (sym (add-zero a)) h)
   lies-split a (x ∷ l) m h =
-      let r = lies-split (a + 1) l m (h .1) in
+      let r = lies-split (suc a) l m (h .1) in
       ((h .0, r .0), lies-at m (omega arith) (r .1))
 
   lies-join : (a : ℕ) (l m : List (Head × ℕ)) → Lies a l → Lies (a + length l) m → Lies a (l ++ m)
   unfolding Lies
   lies-join a [] m h g = lies-at m (add-zero a) g
-  lies-join a (x ∷ l) m h g = (h .0, lies-join (a + 1) l m (h .1) (lies-at m (omega arith) g))
+  lies-join a (x ∷ l) m h g = (h .0, lies-join (suc a) l m (h .1) (lies-at m (omega arith) g))
 
   root-at : {i j : ℕ} (e : Expr) → i ≡ j → Root v i e → Root v j e
   root-at e p h = subst (λ (k : ℕ). Root v k e) p h
