@@ -243,6 +243,18 @@ module _ (s : List ℕ) where
       let m : cutAtRead (map (λ (x : Row). x .1 .1) (rowsAt 0 n)) (drop (n * 5) (drop 2 s)) ≡ some cs = rw (r .1) at e₅ in
       contents-back b (rw (c .1) at (r .0)) cs (rw (c .1) at m))))
 
+-- a content starts where the one before it ends
+pub start-next : (s : List ℕ) (i : ℕ) → 1 ≤ i → startAt s i ≡ endAt s (i - 1)
+unfolding startAt
+start-next s zero h = absurd (omega arith)
+start-next s (suc i) h = let e : suc i - 1 ≡ i = omega arith in rw e
+
+-- a node's content as the part of the bytes that it is
+pub text-part : (s : List ℕ) (i n from to : ℕ) → n ≡ nodeCount s → from ≡ startAt s i → to ≡ endAt s i
+    → take (5 * n + 2 + to - (5 * n + 2 + from)) (drop (5 * n + 2 + from) s) ≡ (nodeAt s i) .text
+unfolding nodeAt
+text-part s i n from to p q r = let e : 5 * n + 2 + to - (5 * n + 2 + from) ≡ to - from = omega arith in rw (e, p, q, r)
+
 -- a node's kind and content are bytes
 pub node-bytes : (s : List ℕ) → Bytes s → (i : ℕ) → Bytes ((nodeAt s i) .kind ∷ (nodeAt s i) .text)
 unfolding nodeAt

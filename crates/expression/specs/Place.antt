@@ -1,5 +1,5 @@
 -- An expression's run by positions: where a node's bytes lie (docs/IMAGES.md, "An expression's node"), and where a tree stands among the nodes.
--- Only `nodeCount`, `endAt`, `startAt` and `nodeAt`, the accessors of src/layout.rt and `Layout.antt` know a byte position: all else sees nodes by
+-- Only `nodeCount` to `Content`, the accessors of src/layout.rt and `Layout.antt` know a byte position: all else sees nodes by
 -- their numbers.
 -- Assumes nothing: these are definitions.
 use mathlib.Core.Path.{_≡_}
@@ -42,6 +42,21 @@ nodeAt s i = record {
   span = num (take 2 (drop (5 * i + 3) s));
   text = take (endAt s i - startAt s i) (drop (5 * nodeCount s + 2 + startAt s i) s);
 }
+
+-- how many bytes stand behind the nodes
+unfoldable pub behind : List ℕ → ℕ
+behind s = length s - (5 * nodeCount s + 2)
+
+-- the nodes are there, and node i is one of them
+pub record Room (s : List ℕ) (i : ℕ) : Type 0 where
+  pub nodes : 5 * nodeCount s + 2 ≤ length s
+  pub within : i < nodeCount s
+
+-- and so is its content
+pub record Content (s : List ℕ) (i : ℕ) : Type 0 where
+  pub node : Room s i
+  pub rising : startAt s i ≤ endAt s i
+  pub inside : endAt s i ≤ behind s
 
 -- ---- kinds: leaves 0 to 8, one operand 9 to 15, two 16 to 29
 
@@ -123,3 +138,8 @@ IsExpression s e = expression .read s ≡ some e
 -- s is the image of an expression
 pub record IsImage (s : List ℕ) : Type 0 where
   pub reads : isSome (expression .read s) ≡ true
+
+-- and node i is one of its nodes
+pub record HasNode (s : List ℕ) (i : ℕ) : Type 0 where
+  pub image : IsImage s
+  pub within : i < nodeCount s

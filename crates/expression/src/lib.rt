@@ -1,1 +1,2 @@
 // An expression's run, read.
+mod layout;
