@@ -14,10 +14,10 @@ use Rattle.tree.specs.Tree.{leaf, un, bin, size}
 use Rattle.rules.specs.Lists.{Text, isSome}
 use Rattle.rules.specs.Statements.{Leaf, Expr}
 use Rattle.statement.specs.Expression.{expression}
-use Rattle.expression.specs.Place.{Node, nodeCount, nodeAt, leafKind, leafText, leafOf, unOf, binOf, top, Root, HasTree, IsExpression, IsImage}
+use Rattle.expression.specs.Place.{Node, nodeCount, nodeAt, leafKind, leafText, leafOf, unOf, binOf, top, Root, HasTree, IsExpression, IsImage, HasNode, Room, Content}
 use Rattle.expression.specs.Heads.{leaf-of, un-of, bin-of, leaf-range, un-range, bin-range}
 use Rattle.expression.specs.Trees.{kindOf, textOf, root-span, size-pos, lies-root, root-lies, each-root}
-use Rattle.expression.specs.Layout.{Laid}
+use Rattle.expression.specs.Layout.{Laid, laid-room, laid-content}
 use Rattle.expression.specs.Images.{Image, image-parts, parts-image}
 
 -- ---- images
@@ -56,6 +56,15 @@ every-node {s} b m i h =
     let t = image-tree m in
     let p = image-parts b (t .1) in
     each-root (nodeAt s) 0 (t .0) (p .lies) i (omega arith) (omega (arith, p .many))
+
+pub image-laid : {s : List ℕ} → Bytes s → IsImage s → Laid s
+image-laid b i = image-parts b (image-tree i .1) .laid
+
+pub has-room : {s : List ℕ} {i : ℕ} → Bytes s → HasNode s i → Room s i
+has-room {i = i} b h = laid-room (image-laid b (h .image)) i (h .within)
+
+pub has-content : {s : List ℕ} {i : ℕ} → Bytes s → HasNode s i → Content s i
+has-content {i = i} b h = laid-content (image-laid b (h .image)) i (h .within)
 
 -- ---- going down: k is the kind at node i
 

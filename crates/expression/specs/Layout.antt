@@ -20,7 +20,7 @@ use Rattle.codec.specs.Layout.{number, row, headed}
 use Rattle.codec.specs.Nodes.{sums, steps, cutAtRead, mend}
 use Rattle.codec.specs.NodeLaws.{cut-at-back}
 use Rattle.codec.specs.Run.{node, cutAt, nodeList}
-use Rattle.expression.specs.Place.{Node, nodeCount, endAt, startAt, nodeAt}
+use Rattle.expression.specs.Place.{Node, nodeCount, endAt, startAt, nodeAt, behind, Room, Content}
 
 -- ---- well laid
 
@@ -242,6 +242,19 @@ module _ (s : List ℕ) where
       let r = rows-back b n rs (c .0) e₄ in
       let m : cutAtRead (map (λ (x : Row). x .1 .1) (rowsAt 0 n)) (drop (n * 5) (drop 2 s)) ≡ some cs = rw (r .1) at e₅ in
       contents-back b (rw (c .1) at (r .0)) cs (rw (c .1) at m))))
+
+pub laid-room : {s : List ℕ} → Laid s → (i : ℕ) → i < nodeCount s → Room s i
+laid-room d i h = record { nodes = d .room; within = h }
+
+pub laid-content : {s : List ℕ} → Laid s → (i : ℕ) → i < nodeCount s → Content s i
+unfolding behind startAt
+laid-content {s} d i h =
+    let r : endAt s i ≤ startAt s (suc i + (nodeCount s - suc i)) = rises s (suc i) (nodeCount s - suc i) (λ j lo hi. d .rising j (omega arith)) in
+    record {
+      node = laid-room d i h;
+      rising = d .rising i h;
+      inside = omega (arith, r, start-at s {i = suc i + (nodeCount s - suc i)} {j = nodeCount s} (omega arith), d .filled);
+    }
 
 -- a content starts where the one before it ends
 pub start-next : (s : List ℕ) (i : ℕ) → 1 ≤ i → startAt s i ≡ endAt s (i - 1)

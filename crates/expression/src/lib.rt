@@ -1,2 +1,35 @@
-// An expression's run, read.
+// An expression's run, read: whether bytes are one, its nodes by their numbers, how deep its tree is, and its names.
 mod layout;
+
+ghost use mathlib.Core.Path.{_≡_};
+ghost use Rattle.expression.specs.Place.{nodeCount, nodeAt, IsImage, HasNode};
+
+pub fn nodes(s: &[u8]) -> usize
+    requires { ⌜ IsImage (now s) ⌝ }
+    ensures { λ r. ⌜ r ≡ nodeCount (now (s .entry)) ⌝ }
+{
+    layout::count(s)
+}
+
+// The node's kind, as docs/IMAGES.md numbers them: leaves 0 to 8, one operand 9 to 15, two 16 to 29.
+pub fn kind(s: &[u8], i: usize) -> u8
+    requires { ⌜ HasNode (now s) i ⌝ }
+    ensures { λ r. ⌜ r ≡ (nodeAt (now (s .entry)) i) .kind ⌝ }
+{
+    layout::kind(s, i)
+}
+
+// How many nodes the tree has whose root is node i.
+pub fn span(s: &[u8], i: usize) -> usize
+    requires { ⌜ HasNode (now s) i ⌝ }
+    ensures { λ r. ⌜ r ≡ (nodeAt (now (s .entry)) i) .span ⌝ }
+{
+    layout::span(s, i)
+}
+
+pub fn text(s: &[u8], i: usize) -> &[u8]
+    requires { ⌜ HasNode (now s) i ⌝ }
+    ensures { λ r. ⌜ now r ≡ (nodeAt (now (s .entry)) i) .text ⌝ }
+{
+    layout::text(s, i)
+}

@@ -9,30 +9,22 @@ use Rattle.expression.specs.Place.{nodeCount}
 use borrow.Author.Needs.{needs}
 use Rattle.expression.proofs.layout.all_there.Statement.{statement}
 use Rattle.expression.proofs.layout.all_there.Tie as tie
-use Rattle.expression.proofs.layout.all_there.Reads as reads
-use Rattle.expression.proofs.layout.all_there.Lts as lts
-use Rattle.expression.proofs.layout.count.Reads as count-reads
 
--- src/layout.rt:29:9
 returns : tie.Need-returns
 returns c =
     let s = c .before .before .args .s .now in
     let h : length s < 5 * nodeCount s + 2 = omega arith in
     sym (lt-leb _ _ h)
 
--- src/layout.rt:31:9
 count-requires : tie.Need-count-requires
 count-requires c κs = search needs
 
--- src/layout.rt:31:5
 mul-result : tie.Need-mul-result
 mul-result c = search needs
 
--- src/layout.rt:31:5
 add-result : tie.Need-add-result
 add-result c = search needs
 
--- src/layout.rt:25:1
 returns-2 : tie.Need-returns-2
 returns-2 c = rw (c .count .ensures .0)
 

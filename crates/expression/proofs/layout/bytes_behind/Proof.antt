@@ -4,27 +4,19 @@ use Rattle.expression.specs.Place.{behind}
 use borrow.Author.Needs.{needs}
 use Rattle.expression.proofs.layout.bytes_behind.Statement.{statement}
 use Rattle.expression.proofs.layout.bytes_behind.Tie as tie
-use Rattle.expression.proofs.layout.bytes_behind.Reads as reads
-use Rattle.expression.proofs.layout.bytes_behind.Lts as lts
-use Rattle.expression.proofs.layout.count.Reads as count-reads
 
--- src/layout.rt:38:20
 count-requires : tie.Need-count-requires
 count-requires c κs = search needs
 
--- src/layout.rt:38:16
 mul-result : tie.Need-mul-result
 mul-result c = search needs
 
--- src/layout.rt:38:16
 add-result : tie.Need-add-result
 add-result c = search needs
 
--- src/layout.rt:38:5
 sub-result : tie.Need-sub-result
 sub-result c = search needs
 
--- src/layout.rt:34:1
 returns : tie.Need-returns
 unfolding behind
 returns c = rw (c .count .ensures .0)

@@ -4,15 +4,10 @@ use Rattle.expression.specs.Place.{nodeCount}
 use borrow.Author.Needs.{needs}
 use Rattle.expression.proofs.layout.count.Statement.{statement}
 use Rattle.expression.proofs.layout.count.Tie as tie
-use Rattle.expression.proofs.layout.count.Reads as reads
-use Rattle.expression.proofs.layout.count.Lts as lts
-use Rattle.expression.proofs.layout.two.Reads as two-reads
 
--- src/layout.rt:21:5
 two-requires : tie.Need-two-requires
 two-requires c κs = search needs
 
--- src/layout.rt:17:1
 returns : tie.Need-returns
 unfolding nodeCount
 returns c = (c .two .ensures .is, c .two .ensures .fits)

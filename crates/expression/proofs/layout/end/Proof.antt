@@ -4,23 +4,16 @@ use Rattle.expression.specs.Place.{endAt}
 use borrow.Author.Needs.{needs}
 use Rattle.expression.proofs.layout.end.Statement.{statement}
 use Rattle.expression.proofs.layout.end.Tie as tie
-use Rattle.expression.proofs.layout.end.Reads as reads
-use Rattle.expression.proofs.layout.end.Lts as lts
-use Rattle.expression.proofs.layout.two.Reads as two-reads
 
--- src/layout.rt:60:12
 mul-two : tie.Need-mul-two
 mul-two c = search needs
 
--- src/layout.rt:60:12
 add-two : tie.Need-add-two
 add-two c = search needs
 
--- src/layout.rt:60:5
 two-requires : tie.Need-two-requires
 two-requires c κs = search needs
 
--- src/layout.rt:56:1
 returns : tie.Need-returns
 unfolding endAt
 returns c = (c .two .ensures .is, c .two .ensures .fits)

@@ -5,22 +5,16 @@ use Rattle.expression.specs.Place.{nodeAt}
 use borrow.Author.Needs.{needs}
 use Rattle.expression.proofs.layout.kind.Statement.{statement}
 use Rattle.expression.proofs.layout.kind.Tie as tie
-use Rattle.expression.proofs.layout.kind.Reads as reads
-use Rattle.expression.proofs.layout.kind.Lts as lts
 
--- src/layout.rt:45:7
 mul-result : tie.Need-mul-result
 mul-result c = search needs
 
--- src/layout.rt:45:7
 add-result : tie.Need-add-result
 add-result c = search needs
 
--- src/layout.rt:45:5
 shared-slice-read-result : tie.Need-shared-slice-read-result
 shared-slice-read-result c = search needs
 
--- src/layout.rt:41:1
 returns : tie.Need-returns
 unfolding nodeAt
 returns c = refl

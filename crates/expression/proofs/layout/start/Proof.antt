@@ -7,24 +7,17 @@ use Rattle.expression.specs.Layout.{start-next}
 use borrow.Author.Needs.{needs}
 use Rattle.expression.proofs.layout.start.Statement.{statement}
 use Rattle.expression.proofs.layout.start.Tie as tie
-use Rattle.expression.proofs.layout.start.Reads as reads
-use Rattle.expression.proofs.layout.start.Lts as lts
-use Rattle.expression.proofs.layout.end.Reads as end-reads
 
--- src/layout.rt:68:9
 returns : tie.Need-returns
 unfolding startAt
 returns c = (rw (c .if1 .taken), omega arith)
 
--- src/layout.rt:70:12
 sub-end : tie.Need-sub-end
 sub-end c = search needs
 
--- src/layout.rt:70:5
 end-requires : tie.Need-end-requires
 end-requires c κs = search needs
 
--- src/layout.rt:63:1
 returns-2 : tie.Need-returns-2
 returns-2 c =
     let a = c .before .before .before .args in

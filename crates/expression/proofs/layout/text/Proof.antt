@@ -6,54 +6,38 @@ use Rattle.expression.specs.Layout.{text-part}
 use borrow.Author.Needs.{needs}
 use Rattle.expression.proofs.layout.text.Statement.{statement}
 use Rattle.expression.proofs.layout.text.Tie as tie
-use Rattle.expression.proofs.layout.text.Reads as reads
-use Rattle.expression.proofs.layout.text.Lts as lts
-use Rattle.expression.proofs.layout.count.Reads as count-reads
-use Rattle.expression.proofs.layout.end.Reads as end-reads
-use Rattle.expression.proofs.layout.start.Reads as start-reads
 
--- src/layout.rt:77:22
 count-requires : tie.Need-count-requires
 count-requires c κs = search needs
 
--- src/layout.rt:77:18
 mul-behind : tie.Need-mul-behind
 mul-behind c = search needs
 
--- src/layout.rt:77:18
 add-behind : tie.Need-add-behind
 add-behind c = search needs
 
--- src/layout.rt:78:25
 start-requires : tie.Need-start-requires
 start-requires c κs = search needs
 
--- src/layout.rt:78:16
 add-from : tie.Need-add-from
 add-from c = search needs
 
--- src/layout.rt:79:23
 end-requires : tie.Need-end-requires
 end-requires c κs = search needs
 
--- src/layout.rt:79:14
 add-to : tie.Need-add-to
 add-to c = search needs
 
--- src/layout.rt:80:5
 sub-result : tie.Need-sub-result
 sub-result c = search needs
 
--- src/layout.rt:80:5
 part-result-start : tie.Need-part-result-start
 part-result-start c = search needs
 
--- src/layout.rt:80:5
 part-result-end : tie.Need-part-result-end
 unfolding behind
 part-result-end c = omega arith
 
--- src/layout.rt:73:1
 returns : tie.Need-returns
 returns c =
     let d = c .before .before .before in
