@@ -33,12 +33,14 @@ image-tree {s} i = go (expression .read s) refl (i .reads)
 pub is-image : {s : List ℕ} {e : Expr} → IsExpression s e → IsImage s
 is-image h = record { reads = ap isSome h }
 
+pub image-root : {s : List ℕ} {e : Expr} → Image s e → Root (nodeAt s) (nodeCount s - 1) e
+image-root {s} {e} i =
+    let q : 0 + size e - 1 ≡ nodeCount s - 1 = omega (arith, i .many) in
+    rw q at (lies-root (nodeAt s) 0 e (i .lies))
+
 -- an image read as e has e's root at its last node
 pub placed : {s : List ℕ} {e : Expr} → Bytes s → IsExpression s e → Root (nodeAt s) (nodeCount s - 1) e × (size e ≡ nodeCount s)
-placed {s} {e} b h =
-    let i = image-parts b h in
-    let q : 0 + size e - 1 ≡ nodeCount s - 1 = omega (arith, i .many) in
-    (subst (λ (j : ℕ). Root (nodeAt s) j e) q (lies-root (nodeAt s) 0 e (i .lies)), sym (i .many))
+placed b h = let i = image-parts b h in (image-root i, sym (i .many))
 
 -- and the other way round, where the nodes are well laid and the contents UTF-8
 pub is-expression : {s : List ℕ} {e : Expr} → Laid s → ((j : ℕ) → j < nodeCount s → isUtf8 ((nodeAt s j) .text) ≡ true)

@@ -268,6 +268,12 @@ pub text-part : (s : List ℕ) (i n from to : ℕ) → n ≡ nodeCount s → fro
 unfolding nodeAt
 text-part s i n from to p q r = let e : 5 * n + 2 + to - (5 * n + 2 + from) ≡ to - from = omega arith in rw (e, p, q, r)
 
+pub text-length : (s : List ℕ) (i : ℕ) → Content s i → length ((nodeAt s i) .text) ≡ endAt s i - startAt s i
+unfolding nodeAt behind
+text-length s i c =
+    length-take-le (endAt s i - startAt s i) (drop (5 * nodeCount s + 2 + startAt s i) s)
+    (omega (arith, length-drop (5 * nodeCount s + 2 + startAt s i) s, c .inside, c .rising, c .node .nodes))
+
 -- a node's kind and content are bytes
 pub node-bytes : (s : List ℕ) → Bytes s → (i : ℕ) → Bytes ((nodeAt s i) .kind ∷ (nodeAt s i) .text)
 unfolding nodeAt

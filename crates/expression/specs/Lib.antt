@@ -4,3 +4,4 @@ pub mod Trees
 pub mod Layout
 pub mod Images
 pub mod Laws
+pub mod Reader

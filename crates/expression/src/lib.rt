@@ -1,7 +1,10 @@
 // An expression's run, read: whether bytes are one, its nodes by their numbers, how deep its tree is, and its names.
 mod layout;
+mod reader;
 
 ghost use mathlib.Core.Path.{_≡_};
+ghost use Rattle.rules.specs.Lists.{isSome};
+ghost use Rattle.statement.specs.Expression.{expression};
 ghost use Rattle.expression.specs.Place.{nodeCount, nodeAt, IsImage, HasNode};
 
 pub fn nodes(s: &[u8]) -> usize
@@ -32,4 +35,33 @@ pub fn text(s: &[u8], i: usize) -> &[u8]
     ensures { λ r. ⌜ now r ≡ (nodeAt (now (s .entry)) i) .text ⌝ }
 {
     layout::text(s, i)
+}
+
+// Whether the bytes are an expression's image: one pass over the nodes. That a node is the root of a tree follows from those before it, so that
+// the spans alone say where its operands are, and the last one says whether a node is left over.
+pub fn is_expression(s: &[u8]) -> bool
+    ensures { λ r. ⌜ r ≡ isSome (expression .read (now (s .entry))) ⌝ }
+{
+    if !layout::all_there(s) {
+        return false;
+    }
+    let n = layout::count(s);
+    if n == 0 {
+        return false;
+    }
+    let last = n - 1;
+    let mut i = 0;
+    while i <= last {
+        if !reader::content_ok(s, i) {
+            return false;
+        }
+        if !reader::shape_ok(s, i) {
+            return false;
+        }
+        i += 1;
+    }
+    if layout::end(s, last) != layout::bytes_behind(s) {
+        return false;
+    }
+    layout::span(s, last) == n
 }
