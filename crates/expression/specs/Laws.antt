@@ -132,15 +132,25 @@ module _ (v : ℕ → Node) (i k : ℕ) (is : k ≡ (v i) .kind) where
         right-span = q;
       }
 
-  -- which operands are there, where some tree has its root at node i
-  pub one-room : HasTree v i → 9 ≤ k → 1 ≤ i
+-- the operands are nodes of the image too, where k is the kind at node i and n the span at node i - 1
+module _ {s : List ℕ} {i : ℕ} (b : Bytes s) (h : HasNode s i) (k : ℕ) (is : k ≡ (nodeAt s i) .kind) where
+  pub last-operand : 9 ≤ k → (1 ≤ i) × HasNode s (i - 1)
   unfolding Root top
-  one-room t lo = go (t .tree) (t .root)
+  last-operand lo = let r = go (t .tree) (t .root) in (r, record { image = h .image; within = omega (arith, h .within) })
     where
-      go : (e : Expr) → Root v i e → 1 ≤ i
-      go (leaf l) h = absurd (omega (arith, leaf-range l, ap kindOf h))
-      go (un o a) h = h .1
-      go (bin o a b) h = omega (arith, h .1)
+      t : HasTree (nodeAt s) i
+      t = every-node b (h .image) i (h .within)
 
-  pub two-room : (n : ℕ) → n ≡ (v (i - 1)) .span → HasTree v i → 16 ≤ k → n + 1 ≤ i
-  two-room n d t lo = bin-at n d (t .tree) (t .root) lo .room
+      go : (e : Expr) → Root (nodeAt s) i e → 1 ≤ i
+      go (leaf l) g = absurd (omega (arith, leaf-range l, ap kindOf g))
+      go (un o a) g = g .1
+      go (bin o a c) g = omega (arith, g .1)
+
+  pub first-operand : (n : ℕ) → n ≡ (nodeAt s (i - 1)) .span → 16 ≤ k → (n + 1 ≤ i) × HasNode s (i - 1 - n)
+  first-operand n d lo =
+      let t = every-node b (h .image) i (h .within) in
+      let r = bin-at (nodeAt s) i k is n d (t .tree) (t .root) lo .room in
+      (r, record { image = h .image; within = omega (arith, h .within) })
+
+  pub known-kind : k < 30
+  known-kind = let t = every-node b (h .image) i (h .within) in kind-range (nodeAt s) i k is (t .tree) (t .root)

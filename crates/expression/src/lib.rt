@@ -3,9 +3,12 @@ mod layout;
 mod reader;
 
 ghost use mathlib.Core.Path.{_≡_};
+ghost use lib.Dec.{leb};
+ghost use Rattle.tree.specs.Tree.{depth};
 ghost use Rattle.rules.specs.Lists.{isSome};
+ghost use Rattle.rules.specs.Statements.{Expr};
 ghost use Rattle.statement.specs.Expression.{expression};
-ghost use Rattle.expression.specs.Place.{nodeCount, nodeAt, IsImage, HasNode};
+ghost use Rattle.expression.specs.Place.{nodeCount, nodeAt, Root, IsImage, HasNode};
 
 pub fn nodes(s: &[u8]) -> usize
     requires { ⌜ IsImage (now s) ⌝ }
@@ -64,4 +67,26 @@ pub fn is_expression(s: &[u8]) -> bool
         return false;
     }
     layout::span(s, last) == n
+}
+
+// Whether the tree whose root is node i is at most `budget` nodes deep (a leaf is 1). It calls itself at most `budget` deep, whatever the tree.
+pub fn depth_at_most(s: &[u8], i: usize, budget: usize) -> bool
+    requires { ⌜ HasNode (now s) i ⌝ }
+    ensures { λ r. ⌜ ((e : Expr) → Root (nodeAt (now (s .entry))) i e → r ≡ leb (depth e) budget) ⌝ }
+{
+    if budget == 0 {
+        return false;
+    }
+    let k = kind(s, i);
+    if k < 9 {
+        return true;
+    }
+    let last = i - 1;
+    if !depth_at_most(s, last, budget - 1) {
+        return false;
+    }
+    if k < 16 {
+        return true;
+    }
+    depth_at_most(s, last - span(s, last), budget - 1)
 }
