@@ -5,3 +5,4 @@ pub mod Layout
 pub mod Images
 pub mod Laws
 pub mod Reader
+pub mod Names

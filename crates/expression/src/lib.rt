@@ -1,14 +1,17 @@
 // An expression's run, read: whether bytes are one, its nodes by their numbers, how deep its tree is, and its names.
 mod layout;
+mod names;
 mod reader;
 
 ghost use mathlib.Core.Path.{_≡_};
 ghost use lib.Dec.{leb};
 ghost use Rattle.tree.specs.Tree.{depth};
-ghost use Rattle.rules.specs.Lists.{isSome};
-ghost use Rattle.rules.specs.Statements.{Expr};
+ghost use Rattle.rules.specs.Lists.{isSome, all, any};
+ghost use Rattle.rules.specs.Limits.{expressionNames, nameWithin};
+ghost use Rattle.rules.specs.Names.{beyondAscii};
+ghost use Rattle.rules.specs.Statements.{Name, Expr};
 ghost use Rattle.statement.specs.Expression.{expression};
-ghost use Rattle.expression.specs.Place.{nodeCount, nodeAt, Root, IsImage, HasNode};
+ghost use Rattle.expression.specs.Place.{nodeCount, nodeAt, Root, IsExpression, IsImage, HasNode};
 
 pub fn nodes(s: &[u8]) -> usize
     requires { ⌜ IsImage (now s) ⌝ }
@@ -89,4 +92,36 @@ pub fn depth_at_most(s: &[u8], i: usize, budget: usize) -> bool
         return true;
     }
     depth_at_most(s, last - span(s, last), budget - 1)
+}
+
+// Whether every name of the expression is within paper 01's limit.
+pub fn names_within(s: &[u8]) -> bool
+    requires { ⌜ IsImage (now s) ⌝ }
+    ensures { λ r. ⌜ ((e : Expr) → IsExpression (now (s .entry)) e → r ≡ all (λ (n : Name). nameWithin (n .text)) (expressionNames e)) ⌝ }
+{
+    let n = nodes(s);
+    let mut i = 0;
+    while i < n {
+        if !names::within(s, i) {
+            return false;
+        }
+        i += 1;
+    }
+    true
+}
+
+// Whether an unquoted name of the expression holds a byte past ASCII.
+pub fn names_beyond_ascii(s: &[u8]) -> bool
+    requires { ⌜ IsImage (now s) ⌝ }
+    ensures { λ r. ⌜ ((e : Expr) → IsExpression (now (s .entry)) e → r ≡ any beyondAscii (expressionNames e)) ⌝ }
+{
+    let n = nodes(s);
+    let mut i = 0;
+    while i < n {
+        if names::beyond_ascii(s, i) {
+            return true;
+        }
+        i += 1;
+    }
+    false
 }
