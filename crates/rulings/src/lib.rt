@@ -86,7 +86,8 @@ fn typed_fit(ty: DataType, given: DataType) -> Fit
 
 // A literal of a VALUES list given to a column.
 pub fn value_fit(kind: ValueKind, ty: DataType, nullable: bool) -> Fit
-    ensures { λ r. ⌜ ((v : Value) (c : BoundColumnRef) → kindOf v ≡ kind → c .ty ≡ ty → c .nullable ≡ nullable → r ≡ toldFit (valueFit v c)) ⌝ }
+    ensures { λ r. ⌜ ((v : Value) (c : BoundColumnRef) → kindOf v ≡ kind → c .ty ≡ ty → c .nullable ≡ nullable
+        → r ≡ toldFit (valueFit v c)) ⌝ }
 {
     match kind {
         ValueKind::Int => typed_fit(ty, DataType::Int),

@@ -19,20 +19,26 @@ enum-known-class c = search needs
 returns : tie.Need-returns
 unfolding binaryRule
 returns c =
-    let a = c .before .before .before .before .before .args in
-    rw (c .if1 .taken) (told-type (operatorRule (a .o) (a .left .ty) (a .right .ty)) true (c .before .before .ty .given .1) (c .before .before .before .before .result .ensures))
+    let b = c .before .before in
+    let a = b .before .before .before .args in
+    let v = operatorRule (a .o) (a .left .ty) (a .right .ty) in
+    rw (c .if1 .taken) (told-type v true (b .ty .given .1) (b .before .before .result .ensures))
 
 returns-2 : tie.Need-returns-2
 unfolding binaryRule
 returns-2 c =
-    let a = c .before .before .before .before .before .args in
-    rw (c .if1 .left) (told-type (operatorRule (a .o) (a .left .ty) (a .right .ty)) (a .right .nullable) (c .before .before .ty .given .1) (c .before .before .before .before .result .ensures))
+    let b = c .before .before in
+    let a = b .before .before .before .args in
+    let v = operatorRule (a .o) (a .left .ty) (a .right .ty) in
+    rw (c .if1 .left) (told-type v (a .right .nullable) (b .ty .given .1) (b .before .before .result .ensures))
 
 returns-3 : tie.Need-returns-3
 unfolding binaryRule
 returns-3 c =
-    let a = c .before .before .before .before .args in
-    told-flaw (operatorRule (a .o) (a .left .ty) (a .right .ty)) (a .left .nullable || a .right .nullable) (c .before .class .given .1) (c .before .before .before .result .ensures)
+    let b = c .before in
+    let a = b .before .before .before .args in
+    let v = operatorRule (a .o) (a .left .ty) (a .right .ty) in
+    told-flaw v (a .left .nullable || a .right .nullable) (b .class .given .1) (b .before .before .result .ensures)
 
 pub binary-spec : {M : Type 1} → statement M
 binary-spec =

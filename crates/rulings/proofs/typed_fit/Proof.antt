@@ -1,6 +1,5 @@
 -- `rulings::typed_fit` meets its contract.
 -- Assumes nothing.
-use mathlib.Core.Path.{sym}
 use Rattle.rulings.proofs.Laws.{same-type-told}
 use borrow.Author.Needs.{needs}
 use Rattle.rulings.proofs.typed_fit.Statement.{statement}
@@ -17,15 +16,27 @@ same-type-requires c κs = search needs
 
 returns : tie.Need-returns
 returns c =
-    let a = c .before .before .before .before .args in
-    let e = sym (same-type-told (a .ty) (a .given)) in
-    simp (e, sym (c .before .before .before .expression-type .ensures), sym (c .before .before .expression-type2 .ensures), sym (c .before .same-type .ensures), c .if1 .taken)
+    let b = c .before .before in
+    let a = b .before .before .args in
+    rw (
+      ← same-type-told (a .ty) (a .given),
+      ← b .before .expression-type .ensures,
+      ← b .expression-type2 .ensures,
+      ← c .before .same-type .ensures,
+      c .if1 .taken,
+    )
 
 returns-2 : tie.Need-returns-2
 returns-2 c =
-    let a = c .before .before .before .before .args in
-    let e = sym (same-type-told (a .ty) (a .given)) in
-    simp (e, sym (c .before .before .before .expression-type .ensures), sym (c .before .before .expression-type2 .ensures), sym (c .before .same-type .ensures), c .if1 .left)
+    let b = c .before .before in
+    let a = b .before .before .args in
+    rw (
+      ← same-type-told (a .ty) (a .given),
+      ← b .before .expression-type .ensures,
+      ← b .expression-type2 .ensures,
+      ← c .before .same-type .ensures,
+      c .if1 .left,
+    )
 
 pub typed-fit-spec : {M : Type 1} → statement M
 typed-fit-spec =

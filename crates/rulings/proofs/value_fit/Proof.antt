@@ -40,7 +40,9 @@ returns-3 : tie.Need-returns-3
 returns-3 c v k e p q = c .typed-fit3 .ensures ∙ rw (kind-told v k, e, c .before .enum-told3 .given .1, p)
 
 returns-4 : tie.Need-returns-4
-returns-4 c v k e p q = c .null-fit .ensures ∙ rw (kind-told v k, e, c .before .enum-told4 .given .1, q) (null-told (c .before .before .before .args .nullable))
+returns-4 c v k e p q =
+    let a = c .before .before .before .args in
+    c .null-fit .ensures ∙ rw (kind-told v k, e, c .before .enum-told4 .given .1, q) (null-told (a .nullable))
 
 pub value-fit-spec : {M : Type 1} → statement M
 value-fit-spec =
