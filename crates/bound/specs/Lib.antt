@@ -1,3 +1,6 @@
 pub mod Columns
 pub mod Expression
 pub mod Layout
+pub mod Nodes
+pub mod Bundles
+pub mod Runs
