@@ -1,0 +1,12 @@
+-- `bound::values::bool_len` meets its contract.
+-- Assumes nothing.
+use mathlib.Core.Path.{refl, sym}
+use Rattle.bound.specs.Spelt.{bool-length}
+use Rattle.bound.proofs.values.bool_len.Statement.{statement}
+use Rattle.bound.proofs.values.bool_len.Tie as tie
+
+returns : tie.Need-returns
+returns c = (refl, λ b. sym (bool-length b))
+
+pub bool-len-spec : {M : Type 1} → statement M
+bool-len-spec = tie.close (tie.spec returns)

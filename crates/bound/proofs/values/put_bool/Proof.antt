@@ -1,0 +1,22 @@
+-- `bound::values::put_bool` meets its contract: two writes, one behind the other.
+-- Assumes nothing.
+use Rattle.wire.specs.Sets.{then}
+use Rattle.bound.specs.Spelt.{spelt, bool-spelt}
+use borrow.Author.Needs.{needs}
+use Rattle.bound.proofs.values.put_bool.Statement.{statement}
+use Rattle.bound.proofs.values.put_bool.Tie as tie
+
+put-byte-requires : tie.Need-put-byte-requires
+put-byte-requires c κs = search needs
+
+put-mark-requires : tie.Need-put-mark-requires
+put-mark-requires c κs = search needs
+
+same-length : tie.Need-same-length
+same-length c = search needs
+
+returns : tie.Need-returns
+returns c = spelt (bool-spelt _) (search (then))
+
+pub put-bool-spec : {M : Type 1} → statement M
+put-bool-spec = tie.close (tie.spec put-byte-requires put-mark-requires same-length returns)

@@ -1,0 +1,87 @@
+-- Each part of the image as the writes that make it, one behind the other, and its length.
+-- Assumes nothing.
+use mathlib.Core.Path.{_≡_, refl, sym, ap, _∙_}
+use mathlib.Core.Bool.{Bool}
+use mathlib.Core.List.{List, [], _∷_, _++_}
+use Prim.Native.Nat.{ℕ, _+_}
+use native.Mathlib.Omega.{arith}
+use lib.ListN.{length, length-append}
+use lib.IntN.{ℤ}
+use mir.Syntax.{w64}
+use mir.Val.{ofZ}
+use Rattle.wire.specs.Le.{le}
+use Rattle.wire.specs.Sets.{Wrote}
+use Rattle.codec.specs.Layout.{mark, alone}
+use Rattle.codec.specs.Layout as layout
+use Rattle.value.specs.Parts.{columnId, dataType, value, columnNumbers, columnSchema}
+use Rattle.rules.specs.Tables.{ColumnSchema}
+use Rattle.rules.specs.Bound.{Value.int, Value.text, Value.bool, Value.null, BoundTableRef, BoundColumnRef}
+use Rattle.bound.specs.Columns.{boundTableRef, boundColumnRef}
+use Rattle.bound.specs.Bundles.{record2, record2-bytes, record2-length}
+
+-- the same write, its bytes said in another way
+pub spelt : {o o′ x y : List ℕ} {i j : ℕ} → x ≡ y → Wrote o i x j o′ → Wrote o i y j o′
+spelt e w = rw e at w
+
+-- ---- tables and columns
+
+pub table-ref-spelt : (t : BoundTableRef) → (le 8 (t .tableId .0) ++ le 8 (t .version)) ++ t .name ≡ boundTableRef .write t
+unfolding boundTableRef
+table-ref-spelt t = refl
+
+pub column-ref-spelt : (r : BoundColumnRef)
+    → (le 8 (r .tableId .0) ++ (columnId .form .write (r .columnId) ++ (le 8 (r .ordinal .0) ++ (dataType .form .write (r .ty) ++ mark .form .write (r .nullable))))) ++ r .name
+    ≡ boundColumnRef .write r
+unfolding boundColumnRef
+column-ref-spelt r = refl
+
+pub column-spelt : (c : ColumnSchema)
+    → le 4 2 ++ ((le 4 10 ++ le 4 (length (c .name))) ++ ((columnId .form .write (c .id) ++ (dataType .form .write (c .ty) ++ mark .form .write (c .nullable))) ++ c .name))
+    ≡ columnSchema 4 .write c
+unfolding columnSchema record2
+column-spelt c = sym (record2-bytes (alone columnNumbers) layout.text (c .id, (c .ty, c .nullable)) (c .name))
+
+pub table-ref-length : (t : BoundTableRef) → length (boundTableRef .write t) ≡ 16 + length (t .name)
+unfolding boundTableRef
+table-ref-length t = omega arith
+
+pub column-ref-length : (r : BoundColumnRef) → length (boundColumnRef .write r) ≡ 26 + length (r .name)
+unfolding boundColumnRef
+column-ref-length r = omega arith
+
+pub column-length : (c : ColumnSchema) → length (columnSchema 4 .write c) ≡ 22 + length (c .name)
+column-length c = ap length (sym (column-spelt c)) ∙ omega arith
+
+-- ---- values
+
+pub int-spelt : (z : ℤ) → (0 ∷ []) ++ le 8 (ofZ w64 z) ≡ value .write (int z)
+unfolding value
+int-spelt z = refl
+
+pub text-spelt : (s : List ℕ) → (1 ∷ []) ++ s ≡ value .write (text s)
+unfolding value
+text-spelt s = refl
+
+pub bool-spelt : (b : Bool) → (2 ∷ []) ++ mark .form .write b ≡ value .write (bool b)
+unfolding value
+bool-spelt b = refl
+
+pub null-spelt : 3 ∷ [] ≡ value .write null
+unfolding value
+null-spelt = refl
+
+pub int-length : (z : ℤ) → length (value .write (int z)) ≡ 9
+unfolding value
+int-length z = refl
+
+pub text-length : (s : List ℕ) → length (value .write (text s)) ≡ 1 + length s
+unfolding value
+text-length s = omega arith
+
+pub bool-length : (b : Bool) → length (value .write (bool b)) ≡ 2
+unfolding value
+bool-length b = refl
+
+pub null-length : length (value .write null) ≡ 1
+unfolding value
+null-length = refl

@@ -1,0 +1,27 @@
+// A node of a bound expression's run.
+ghost use mathlib.Core.Path.{_≡_};
+ghost use Prim.Native.Nat.{ℕ, _+_, _≤_};
+ghost use lib.ListN.{length};
+ghost use Rattle.wire.specs.Sets.{Wrote};
+ghost use Rattle.rules.specs.declared.Mark.{Mark};
+ghost use Rattle.bound.specs.Nodes.{nodeBytes};
+use crate::fields::put_byte;
+use crate::fields::put_marks;
+use rules::Mark;
+
+// Kind, type, nullable, then the span and the end of the content, 4 bytes each.
+pub fn put_node(out: &mut [u8], at: usize, kind: u8, mark: Mark, span: usize, end: usize) -> usize
+    requires { ⌜ at + 11 ≤ length (now out) ⌝ }
+    ensures { λ r. ⌜ Wrote (now (out .entry)) at (nodeBytes kind mark span end) r (now (out .exit)) ⌝ }
+{
+    let a = put_byte(out, at, kind);
+    let b = put_marks(out, a, mark);
+    let c = wire::put(out, b, 4, span as u64);
+    wire::put(out, c, 4, end as u64)
+}
+
+pub fn node_len() -> usize
+    ensures { λ r. ⌜ (r ≡ 11) × ((kind : ℕ) (mark : Mark) (span end : ℕ) → r ≡ length (nodeBytes kind mark span end)) ⌝ }
+{
+    11
+}
