@@ -23,6 +23,12 @@ fn link_other_side() {
         eprintln!("the feature linked needs SIRKLEMET_STATICLIB, the path of a file libNAME.a");
         std::process::exit(1);
     };
+    let file = library.file_stem().and_then(|stem| stem.to_str()).and_then(|stem| stem.strip_prefix("lib"));
+    let (Some(folder), Some(name)) = (library.parent(), file) else {
+        eprintln!("{} is no path of a file libNAME.a", library.display());
+        std::process::exit(1);
+    };
     println!("cargo:rerun-if-changed={}", library.display());
-    println!("cargo:rustc-link-arg={}", library.display());
+    println!("cargo:rustc-link-search=native={}", folder.display());
+    println!("cargo:rustc-link-lib=static={name}");
 }

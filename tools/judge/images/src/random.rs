@@ -26,11 +26,11 @@ impl Rng {
     /// The source of case `index` of a run: independent of the cases before it.
     pub fn of_case(seed: u64, index: u64) -> Self {
         let mut rng = Rng::new(seed);
-        let mixed = rng.next() ^ index.wrapping_mul(0xD6E8_FEB8_6659_FD93);
-        Rng::new(Rng::new(mixed).next())
+        let mixed = rng.draw() ^ index.wrapping_mul(0xD6E8_FEB8_6659_FD93);
+        Rng::new(Rng::new(mixed).draw())
     }
 
-    pub fn next(&mut self) -> u64 {
+    pub fn draw(&mut self) -> u64 {
         self.state = self.state.wrapping_add(0x9E37_79B9_7F4A_7C15);
         let mut mixed = self.state;
         mixed = (mixed ^ (mixed >> 30)).wrapping_mul(0xBF58_476D_1CE4_E5B9);
@@ -40,7 +40,7 @@ impl Rng {
 
     /// A number below `bound`, which is not 0.
     pub fn below(&mut self, bound: usize) -> usize {
-        (self.next() % bound as u64) as usize
+        (self.draw() % bound as u64) as usize
     }
 
     pub fn between(&mut self, least: usize, most: usize) -> usize {
@@ -74,7 +74,7 @@ pub fn any_u64(rng: &mut Rng) -> u64 {
         0 => 0,
         1 => u64::MAX,
         2 => 1 << rng.below(64),
-        3 => rng.next(),
+        3 => rng.draw(),
         _ => rng.below(300) as u64,
     }
 }
@@ -366,7 +366,7 @@ pub fn damage_bytes(rng: &mut Rng, bytes: &mut Vec<u8>) {
         let place = rng.below(bytes.len().max(1));
         match rng.below(8) {
             0 => bytes.truncate(place),
-            1 => bytes.push(rng.next() as u8),
+            1 => bytes.push(rng.draw() as u8),
             2 => bytes.insert(place.min(bytes.len()), rng.below(3) as u8),
             _ if bytes.is_empty() => {}
             3 => {

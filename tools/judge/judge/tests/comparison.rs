@@ -49,7 +49,7 @@ fn planted_mistakes_are_caught_and_made_small() {
         let case = first_difference(&mut side).unwrap_or_else(|| panic!("{name} is not caught"));
         let small = shrink(&case, &mut |case| run_case(case, &mut side, 0).difference.is_some());
         assert!(run_case(&small, &mut side, 0).difference.is_some(), "{name}");
-        let size = small.statement.len() + small.catalogue.len();
+        let size = small.size();
         assert!(size <= 450, "{name}: the smallest case found has {size} bytes");
     }
 }

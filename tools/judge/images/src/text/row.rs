@@ -10,11 +10,11 @@ pub fn row(text: &str) -> Parsed<Row> {
     let mut values = Vec::new();
     let parenthesized = cursor.eat_sign("(");
     let empty = cursor.at_end() || cursor.is_sign(")");
-    while !empty {
+    if !empty {
         values.push(value(&mut cursor)?);
-        if !cursor.eat_sign(",") {
-            break;
-        }
+    }
+    while cursor.eat_sign(",") {
+        values.push(value(&mut cursor)?);
     }
     if parenthesized {
         cursor.expect_sign(")")?;

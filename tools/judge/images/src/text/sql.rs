@@ -5,8 +5,7 @@ use super::expression::{expression, name, object_name, peek_name};
 use super::tokens::{Cursor, Kind};
 use crate::statement::{
     Assignment, ColumnDefinition, ColumnOption, Constraint, CreateTable, DataType, Delete, DeleteFrom, Expression,
-    Insert, Item, Node, ObjectName, OptionKind, Query, Relation, Select, Source, Statement, Table, Target, Tree,
-    Update, Values,
+    Insert, Item, Node, OptionKind, Query, Relation, Select, Source, Statement, Table, Target, Tree, Update, Values,
 };
 
 /// Reads one statement. Its raw text is `text` without the white space around it, as the original's `parse_one` keeps
@@ -642,9 +641,4 @@ fn show(cursor: &mut Cursor) -> Parsed<Tree> {
         cursor.skip_until(&[])?;
     }
     Ok(Tree::ShowTables { options })
-}
-
-/// The name of a table in a statement that names one.
-pub fn plain_table(name: ObjectName) -> Table {
-    Table { joins: false, relation: Some(Relation { features: false, name }) }
 }

@@ -141,8 +141,8 @@ fn compare(command: &Command) -> Result<bool, String> {
         let outcome = run_case(&made.case, &mut other, index);
         tally.add(&made.case, &outcome.verdict);
         made.faults.iter().for_each(|fault| tally.add_fault(fault));
-        if let Some([one, two]) = &made.alone {
-            tally.add_pair(number(one), number(two));
+        if let Some([one, two]) = made.alone() {
+            tally.add_pair(number(&one), number(&two));
         }
         if outcome.difference.is_some() {
             differences += 1;

@@ -1,19 +1,19 @@
 //! The side that is compared with the Rust.
 //!
 //! Today there is none in the repository: `tools/compare` then runs the Rust alone. The binder is to come as a static
-//! library made by `rt staticlib`. To compare with it, build with
+//! library made by `rt staticlib`. To compare with it:
 //!
 //! ```text
-//! SIRKLEMET_STATICLIB=path/to/libNAME.a cargo build --release --features linked
+//! SIRKLEMET_STATICLIB=path/to/libNAME.a tools/compare --seed 1 --count 100000
 //! ```
 //!
-//! where the library exports, with the C calling convention,
+//! The library exports, with the C calling convention,
 //!
 //! ```text
-//! bind(statement: &[u8], catalogue: &[u8], out: &mut [u8]) -> u64
+//! sirklemet_bind(statement: &[u8], catalogue: &[u8], out: &mut [u8]) -> u64
 //! ```
 //!
-//! A slice passes as a pointer and then a length. The answer is 256 times the length written, plus the number of the
+//! (plain `bind` is taken: it is the socket call of the C library, which the linker would find instead). A slice passes as a pointer and then a length. The answer is 256 times the length written, plus the number of the
 //! refusal, which is 0 where the statement binds.
 
 /// What a binder answers: 0 and the length of the bound image, which it wrote to the front of the output, or the number
@@ -33,7 +33,7 @@ pub mod linked {
     use super::{OtherSide, Reply};
 
     unsafe extern "C" {
-        fn bind(
+        fn sirklemet_bind(
             statement: *const u8,
             statement_length: usize,
             catalogue: *const u8,
@@ -51,7 +51,7 @@ pub mod linked {
             // SAFETY: the library reads the two inputs and writes the output within the lengths given, as its contract
             // says.
             let answer = unsafe {
-                bind(
+                sirklemet_bind(
                     statement.as_ptr(),
                     statement.len(),
                     catalogue.as_ptr(),

@@ -1,13 +1,13 @@
 //! A sample of cases with the Rust's answers, as lines of hex.
 
-use std::collections::BTreeMap;
+use std::collections::{BTreeMap, BTreeSet};
 
 use images::show::hex;
 
-use super::places::place_of;
+use super::places::{PLACES, place_of};
 use super::tally::kind_of;
 use crate::decode::Choice;
-use crate::generate::{Case, planted};
+use crate::generate::{Case, Planted, planted};
 use crate::judge::{Answer, Verdict, judge_with};
 
 const HEADING: &str = "\
@@ -20,44 +20,67 @@ const HEADING: &str = "\
 # 1 to 4 are the Rust's own; 5 to 8 come before it and 9 after it, by paper 01.
 ";
 
-/// What a sample must reach: kind of statement, answer, and for 1 to 4 the place in the Rust.
-type Key = (usize, u8, Option<usize>);
-
-fn key_of(case: &Case, verdict: &Verdict) -> Key {
-    let number = verdict.answer.number();
-    let place = if (1..=4).contains(&number) { place_of(&verdict.reason) } else { None };
-    (kind_of(case), number, place)
-}
-
 fn verdict_of(case: &Case) -> Verdict {
     judge_with(&case.statement, &case.catalogue, case.room, &mut Choice::new(0))
+}
+
+/// What a sample must reach: every answer from every place, of 1 to 4 for every kind of statement, and every planted
+/// fault with every answer that it came to. A large case serves a fault only where it binds or passes a limit.
+fn keys_of(made: &Planted, verdict: &Verdict) -> Vec<String> {
+    let number = verdict.answer.number();
+    let kind = if (5..=7).contains(&number) { 0 } else { kind_of(&made.case) };
+    let mut keys = vec![format!("{kind} {number} {}", place_text(verdict))];
+    if made.case.size() <= LARGE || number == 0 || number == 7 {
+        keys.extend(made.faults.iter().map(|fault| format!("{fault} {number}")));
+    }
+    keys
+}
+
+/// Where the refusal came from, without names and numbers.
+fn place_text(verdict: &Verdict) -> String {
+    match verdict.answer.number() {
+        1..=4 => place_of(&verdict.reason).map_or(String::new(), |place| PLACES[place].to_string()),
+        5..=7 => {
+            let outside_quotes = verdict.reason.split('"').step_by(2);
+            outside_quotes.flat_map(str::chars).filter(|letter| !letter.is_ascii_digit()).collect()
+        }
+        _ => String::new(),
+    }
 }
 
 /// How many cases are looked at for each one that is taken.
 const LOOKED_AT: u64 = 20;
 
-/// Takes `count` cases, in turn from every combination that comes up, small cases first.
+/// Of cases larger than this, each key takes one only.
+const LARGE: usize = 4_000;
+
+/// Takes `count` cases, in turn for every key, small cases first.
 pub fn sample(seed: u64, count: usize) -> String {
-    let mut found: BTreeMap<Key, Vec<(usize, u64)>> = BTreeMap::new();
+    let mut found: BTreeMap<String, Vec<(usize, u64)>> = BTreeMap::new();
     for index in 0..count as u64 * LOOKED_AT {
-        let case = planted(seed, index).case;
-        let size = case.statement.len() + case.catalogue.len();
-        found.entry(key_of(&case, &verdict_of(&case))).or_default().push((size, index));
+        let made = planted(seed, index);
+        for key in keys_of(&made, &verdict_of(&made.case)) {
+            found.entry(key).or_default().push((made.case.size(), index));
+        }
     }
     let mut queues: Vec<Vec<u64>> = found.into_values().map(smallest_last).collect();
-    let mut chosen = Vec::new();
+    let mut chosen = BTreeSet::new();
     while chosen.len() < count && queues.iter().any(|queue| !queue.is_empty()) {
-        let next: Vec<u64> = queues.iter_mut().filter_map(Vec::pop).collect();
-        chosen.extend(next.into_iter().take(count - chosen.len()));
+        for queue in &mut queues {
+            if chosen.len() < count {
+                chosen.extend(queue.pop());
+            }
+        }
     }
-    chosen.sort_unstable();
     let lines: String = chosen.into_iter().map(|index| line(&planted(seed, index).case)).collect();
     format!("{HEADING}# Made by: tools/compare --seed {seed} --sample {count}\n{lines}")
 }
 
 fn smallest_last(mut cases: Vec<(usize, u64)>) -> Vec<u64> {
-    cases.sort_unstable_by(|left, right| right.cmp(left));
-    cases.into_iter().map(|(_, index)| index).collect()
+    cases.sort_unstable();
+    let small = cases.iter().filter(|(size, _)| *size <= LARGE).count();
+    cases.truncate(small.max(1));
+    cases.into_iter().rev().map(|(_, index)| index).collect()
 }
 
 fn line(case: &Case) -> String {

@@ -6,8 +6,8 @@ use images::limits;
 use images::random::{Rng, any_expression};
 use images::run::spans;
 use images::statement::{
-    Assignment, ColumnDefinition, ColumnOption, Constraint, CreateTable, DataType, DeleteFrom, Expression, Insert,
-    Item, Name, Node, ObjectName, OptionKind, Source, Table, Target, Tree, Update, Values,
+    Assignment, ColumnDefinition, ColumnOption, Constraint, CreateTable, DataType, Delete, DeleteFrom, Expression,
+    Insert, Item, Name, Node, ObjectName, OptionKind, Query, Select, Source, Table, Target, Tree, Update, Values,
 };
 use images::value::{ColumnType, ExpressionType, Operator};
 
@@ -191,14 +191,8 @@ pub const FAULTS: &[Fault] = &[
     rare("values of a row at their limit", values_at_limit),
     rare("INSERT columns at their limit", insert_columns_at_limit),
     // SELECT.
-    common("clauses of a query", |_, draft| match &mut draft.statement.tree {
-        Tree::Query(query) => yes(query.clauses = true),
-        _ => false,
-    }),
-    common("query that is no SELECT", |_, draft| match &mut draft.statement.tree {
-        Tree::Query(query) => yes(query.select = None),
-        _ => false,
-    }),
+    common("clauses of a query", |_, draft| with(query(draft), |query| query.clauses = true)),
+    common("query that is no SELECT", |_, draft| with(query(draft), |query| query.select = None)),
     common("SELECT mark", |_, draft| with(select(draft), |select| select.features = true)),
     common("SELECT from several", |_, draft| with(select(draft), |select| select.from = None)),
     common("other item", |rng, draft| add_item(rng, draft, |_| Item::Other)),
@@ -220,46 +214,30 @@ pub const FAULTS: &[Fault] = &[
     common("value that may be null", value_that_may_be_null),
     rare("assignments at their limit", assignments_at_limit),
     // DELETE.
-    common("DELETE mark", |rng, draft| match &mut draft.statement.tree {
-        Tree::Delete(delete) => yes(match rng.below(5) {
-            0 => delete.tables = true,
-            1 => delete.using = true,
-            2 => delete.returning = true,
-            3 => delete.order_by = true,
-            _ => delete.limit = true,
-        }),
-        _ => false,
+    common("DELETE mark", |rng, draft| {
+        let mark = rng.below(5);
+        with(delete(draft).and_then(|delete| delete_marks(delete).into_iter().nth(mark)), |mark| *mark = true)
     }),
-    common("DELETE without FROM", |_, draft| match &mut draft.statement.tree {
-        Tree::Delete(delete) => yes(delete.from = DeleteFrom::WithoutKeyword),
-        _ => false,
-    }),
-    common("DELETE from several", |_, draft| match &mut draft.statement.tree {
-        Tree::Delete(delete) => yes(delete.from = DeleteFrom::NotOne),
-        _ => false,
-    }),
+    common("DELETE without FROM", |_, draft| with(delete(draft), |delete| delete.from = DeleteFrom::WithoutKeyword)),
+    common("DELETE from several", |_, draft| with(delete(draft), |delete| delete.from = DeleteFrom::NotOne)),
     // The small ones.
-    common("mark of a small statement", |rng, draft| match &mut draft.statement.tree {
-        Tree::Begin { modes } => yes(*modes = true),
-        Tree::Commit { chain } => yes(*chain = true),
-        Tree::ShowTables { options } => yes(*options = true),
-        Tree::Rollback { chain, savepoint } => yes(*if rng.once_in(2) { chain } else { savepoint } = true),
-        _ => false,
+    common("mark of a small statement", |rng, draft| {
+        let mark = match &mut draft.statement.tree {
+            Tree::Begin { modes } => Some(modes),
+            Tree::Commit { chain } => Some(chain),
+            Tree::ShowTables { options } => Some(options),
+            Tree::Rollback { chain, savepoint } => Some(if rng.once_in(2) { chain } else { savepoint }),
+            _ => None,
+        };
+        with(mark, |mark| *mark = true)
     }),
 ];
 
 // ---- reaching into a draft ----
 
-fn yes(_: ()) -> bool {
-    true
-}
-
 /// Changes a thing if it is there.
 fn with<T>(thing: Option<T>, change: impl FnOnce(T)) -> bool {
-    match thing {
-        Some(thing) => yes(change(thing)),
-        None => false,
-    }
+    thing.map(change).is_some()
 }
 
 /// One of a list's entries: often the one that other faults of the same draft choose too, so that they meet there.
@@ -269,7 +247,7 @@ fn some_of<'a, T>(rng: &mut Rng, focus: usize, list: &'a mut [T]) -> Option<&'a 
 }
 
 fn set(damage: &mut Option<u64>, rng: &mut Rng) -> bool {
-    *damage = Some(rng.next());
+    *damage = Some(rng.draw());
     true
 }
 
@@ -300,11 +278,26 @@ fn values(draft: &mut Draft) -> Option<&mut Values> {
     source(draft)?.values.as_mut()
 }
 
-fn select(draft: &mut Draft) -> Option<&mut images::statement::Select> {
+fn query(draft: &mut Draft) -> Option<&mut Query> {
     match &mut draft.statement.tree {
-        Tree::Query(query) => query.select.as_mut(),
+        Tree::Query(query) => Some(query),
         _ => None,
     }
+}
+
+fn select(draft: &mut Draft) -> Option<&mut Select> {
+    query(draft)?.select.as_mut()
+}
+
+fn delete(draft: &mut Draft) -> Option<&mut Delete> {
+    match &mut draft.statement.tree {
+        Tree::Delete(delete) => Some(delete),
+        _ => None,
+    }
+}
+
+fn delete_marks(delete: &mut Delete) -> [&mut bool; 5] {
+    [&mut delete.tables, &mut delete.using, &mut delete.returning, &mut delete.order_by, &mut delete.limit]
 }
 
 fn update(draft: &mut Draft) -> Option<&mut Update> {
@@ -419,16 +412,17 @@ fn unsound_catalogue(rng: &mut Rng, draft: &mut Draft) -> bool {
     if rule < 2 {
         let mut copy = catalogues::tiny_table(0);
         if rule == 0 {
-            copy.id = tables[place].id
+            copy.id = tables[place].id;
         } else {
-            copy.name = tables[place].name.clone()
+            copy.name = tables[place].name.clone();
         }
-        return yes(tables.push(copy));
+        tables.push(copy);
+        return true;
     }
     let table = &mut tables[place];
     let some = rng.below(table.columns.len());
     let again = Column { id: u64::MAX - 1, ..table.columns[some].clone() };
-    yes(match rule {
+    match rule {
         2 => table.columns[some].id = 0,
         3 => table.columns.push(Column { id: table.columns[some].id, name: "again".to_string(), ..again }),
         4 => table.columns.push(again),
@@ -439,13 +433,19 @@ fn unsound_catalogue(rng: &mut Rng, draft: &mut Draft) -> bool {
             let key = table.key.first().copied();
             table.columns.iter_mut().filter(|column| Some(column.id) == key).for_each(|column| column.nullable = true);
         }
-    })
+    }
+    true
 }
 
 fn long_catalogue_name(rng: &mut Rng, draft: &mut Draft) -> bool {
     let Some(table) = draft.catalogue.tables.first_mut() else { return false };
     let name = long(rng);
-    yes(if rng.once_in(2) { table.name = name } else { table.columns[0].name = name })
+    if rng.once_in(2) {
+        table.name = name;
+    } else {
+        table.columns[0].name = name;
+    }
+    true
 }
 
 fn statement_at_limit(rng: &mut Rng, draft: &mut Draft) -> bool {
@@ -577,7 +577,7 @@ fn some_option<'a>(rng: &mut Rng, draft: &'a mut Draft) -> Option<&'a mut Column
 }
 
 fn add_option(rng: &mut Rng, draft: &mut Draft, kind: OptionKind) -> bool {
-    let place = rng.next() as usize;
+    let place = rng.draw() as usize;
     with(some_column(rng, draft), |column| {
         let place = place % (column.options.len() + 1);
         column.options.insert(place, option(kind));
@@ -615,11 +615,12 @@ fn repeated_column(rng: &mut Rng, draft: &mut Draft) -> bool {
     let name = canonical(&rng.pick(&create.columns).name);
     let again = column(rng, &name);
     let place = rng.below(create.columns.len() + 1);
-    yes(create.columns.insert(place, again))
+    create.columns.insert(place, again);
+    true
 }
 
 fn add_constraint(rng: &mut Rng, draft: &mut Draft, constraint: Constraint) -> bool {
-    let place = rng.next() as usize;
+    let place = rng.draw() as usize;
     with(create(draft), |create| {
         let place = place % (create.constraints.len() + 1);
         create.constraints.insert(place, constraint);
@@ -658,7 +659,8 @@ fn change_key_names(rng: &mut Rng, draft: &mut Draft, change: impl FnOnce(&mut V
     let found = create(draft).is_some_and(|create| {
         create.constraints.iter().any(|constraint| matches!(constraint, Constraint::PrimaryKey { .. }))
     });
-    if !found && !(no_key(rng, draft) && another_key(rng, draft)) {
+    let made = found || no_key(rng, draft) && another_key(rng, draft);
+    if !made {
         return false;
     }
     let names = create(draft).and_then(|create| {
@@ -716,7 +718,7 @@ fn row_of_another_length(rng: &mut Rng, draft: &mut Draft) -> bool {
 
 fn change_value(rng: &mut Rng, draft: &mut Draft, make: impl Fn(&mut Rng) -> Expression) -> bool {
     let value = make(rng);
-    let place = if rng.once_in(2) { rng.next() as usize } else { draft.focus };
+    let place = if rng.once_in(2) { rng.draw() as usize } else { draft.focus };
     with(some_row(rng, draft).filter(|row| !row.is_empty()), |row| {
         let place = place % row.len();
         row[place] = value;
@@ -776,7 +778,7 @@ fn insert_columns_at_limit(rng: &mut Rng, draft: &mut Draft) -> bool {
 
 fn add_item(rng: &mut Rng, draft: &mut Draft, make: impl Fn(&mut Rng) -> Item) -> bool {
     let made = make(rng);
-    let place = rng.next() as usize;
+    let place = rng.draw() as usize;
     with(select(draft), |select| {
         let place = place % (select.items.len() + 1);
         select.items.insert(place, made);

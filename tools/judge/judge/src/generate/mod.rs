@@ -24,12 +24,32 @@ pub struct Case {
     pub room: usize,
 }
 
-/// A case and the faults planted in it. With exactly two faults, `alone` has the case with the first only and the case
-/// with the second only.
+impl Case {
+    /// The bytes of both images.
+    pub fn size(&self) -> usize {
+        self.statement.len() + self.catalogue.len()
+    }
+}
+
+/// A case and the faults planted in it.
 pub struct Planted {
     pub case: Case,
     pub faults: Vec<&'static str>,
-    pub alone: Option<[Case; 2]>,
+    base: Option<Draft>,
+    /// For each fault its place in `FAULTS` and its seed.
+    plan: Vec<(usize, u64)>,
+}
+
+impl Planted {
+    /// For a case with exactly two faults: the case with the first only, and the case with the second only.
+    pub fn alone(&self) -> Option<[Case; 2]> {
+        let (base, [first, second]) = (self.base.as_ref()?, self.plan.as_slice()) else { return None };
+        Some([first, second].map(|(place, seed)| {
+            let mut draft = base.clone();
+            (FAULTS[*place].plant)(&mut Rng::new(*seed), &mut draft);
+            draft.finish()
+        }))
+    }
 }
 
 /// A case before its bytes are made.
@@ -65,21 +85,14 @@ pub fn planted(seed: u64, index: u64) -> Planted {
     let base = base(&mut rng);
     let count = [0, 0, 0, 1, 1, 1, 1, 2, 2, 2, 2, 2, 2, 2, 2, 2, 3, 3, 3, 4][rng.below(20)];
     let mut draft = base.clone();
-    let mut applied = Vec::new();
+    let mut plan = Vec::new();
     for _ in 0..count {
-        let fault_seed = rng.next();
-        let (fault, place) = plant_some_fault(&mut rng, fault_seed, &mut draft);
-        applied.push((fault, place, fault_seed));
+        let fault_seed = rng.draw();
+        let place = plant_some_fault(&mut rng, fault_seed, &mut draft);
+        plan.push((place, fault_seed));
     }
-    let alone = match applied.as_slice() {
-        [first, second] => Some([first, second].map(|(_, place, fault_seed)| {
-            let mut draft = base.clone();
-            (FAULTS[*place].plant)(&mut Rng::new(*fault_seed), &mut draft);
-            draft.finish()
-        })),
-        _ => None,
-    };
-    Planted { case: draft.finish(), faults: applied.into_iter().map(|(fault, ..)| fault).collect(), alone }
+    let faults = plan.iter().map(|(place, _)| FAULTS[*place].name).collect();
+    Planted { case: draft.finish(), faults, base: Some(base), plan }
 }
 
 fn base(rng: &mut Rng) -> Draft {
@@ -96,8 +109,8 @@ fn base(rng: &mut Rng) -> Draft {
     }
 }
 
-/// Tries faults until one can be planted. Some can always be.
-fn plant_some_fault(rng: &mut Rng, fault_seed: u64, draft: &mut Draft) -> (&'static str, usize) {
+/// Tries faults until one can be planted, and says which. Some can always be.
+fn plant_some_fault(rng: &mut Rng, fault_seed: u64, draft: &mut Draft) -> usize {
     loop {
         let place = rng.below(FAULTS.len());
         let fault = &FAULTS[place];
@@ -107,7 +120,7 @@ fn plant_some_fault(rng: &mut Rng, fault_seed: u64, draft: &mut Draft) -> (&'sta
         let mut changed = draft.clone();
         if (fault.plant)(&mut Rng::new(fault_seed), &mut changed) {
             *draft = changed;
-            return (fault.name, place);
+            return place;
         }
     }
 }
@@ -119,10 +132,10 @@ fn nonsense(rng: &mut Rng) -> Planted {
         catalogue: any_catalogue(rng),
         room: Room::Ample,
         focus: 0,
-        statement_damage: rng.once_in(4).then(|| rng.next()),
-        catalogue_damage: rng.once_in(4).then(|| rng.next()),
+        statement_damage: rng.once_in(4).then(|| rng.draw()),
+        catalogue_damage: rng.once_in(4).then(|| rng.draw()),
     };
-    Planted { case: draft.finish(), faults: vec!["nonsense"], alone: None }
+    Planted { case: draft.finish(), faults: vec!["nonsense"], base: None, plan: Vec::new() }
 }
 
 impl Draft {
