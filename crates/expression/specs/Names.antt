@@ -16,8 +16,8 @@ use Rattle.codec.specs.NodeLaws.{nodes-length}
 use Rattle.rules.specs.Lists.{all, any}
 use Rattle.rules.specs.Limits.{leafNames, expressionNames, nameWithin}
 use Rattle.rules.specs.Names.{beyondAscii}
-use Rattle.rules.specs.Statements.{Name, Leaf, Unary, Binary, Expr}
-use Rattle.expression.specs.Place.{Node, nodeCount, nodeAt, nameKind, truthKind, leafKind, leafText, unKind, binKind, IsExpression, IsImage, HasNode}
+use Rattle.rules.specs.Statements.{Name, Leaf, Expr}
+use Rattle.expression.specs.Place.{Node, nodeCount, nodeAt, leafKind, leafText, unKind, binKind, IsExpression, IsImage, HasNode}
 use Rattle.expression.specs.Heads.{Head, headKind, headText, un-range, bin-range}
 use Rattle.expression.specs.Trees.{nodeOf, Lies}
 use Rattle.expression.specs.Images.{image-parts}

@@ -1,26 +1,26 @@
 -- What the reader tests at each node, and that those tests tell an image from other bytes.
 -- Assumes nothing.
-use mathlib.Core.Path.{_≡_, _∙_, refl, sym, ap, subst}
+use mathlib.Core.Path.{_≡_, _∙_, refl, sym, ap}
 use mathlib.Core.Bool.{Bool, true, false, cond, not, false≢true}
 use mathlib.Core.Option.{Option, none, some}
 use mathlib.Core.List.{List, []}
-use Prim.Native.Nat.{ℕ, _+_, _-_, _*_, _<_, _≤_}
+use Prim.Native.Nat.{ℕ, _+_, _-_, _<_, _≤_}
 use native.Mathlib.Omega.{arith}
 use native.Mathlib.Decide.{decLt}
-use lib.ListN.{length, take}
+use lib.ListN.{length}
 use lib.Dec.{leb, ltb, eqb}
-use borrow.Author.Tests.{le-leb, lt-leb, leb-true, leb-false, lt-ltb, le-ltb, ltb-true, ltb-false, eq-eqb, ne-eqb, eqb-true, eqb-false, not-true, not-false}
+use borrow.Author.Tests.{le-leb, lt-leb, leb-false, lt-ltb, le-ltb, ltb-true, ltb-false, eq-eqb, ne-eqb, eqb-true, eqb-false, not-true, not-false}
 use borrow.Author.Count.{below-more}
 use Rattle.wire.specs.Le.{Bytes}
 use Rattle.utf8.specs.Decide.{isUtf8}
 use Rattle.tree.specs.Tree.{leaf, un, bin, size}
 use Rattle.rules.specs.Lists.{isSome}
-use Rattle.rules.specs.Statements.{Leaf, Expr}
+use Rattle.rules.specs.Statements.{Expr}
 use Rattle.statement.specs.Expression.{expression}
-use Rattle.expression.specs.Place.{Node, nodeCount, endAt, startAt, nodeAt, behind, Room, Content, leafKind, leafOf, unOf, binOf, top, Root, HasTree, IsExpression}
+use Rattle.expression.specs.Place.{Node, nodeCount, endAt, startAt, nodeAt, behind, allThere, AllThere, Room, Content, leafOf, unOf, binOf, top, Root, HasTree}
 use Rattle.expression.specs.Heads.{leaf-range, un-range, bin-range, leaf-kind, leaf-text, un-kind, bin-kind, no-text}
 use Rattle.expression.specs.Trees.{kindOf, spanOf, textOf, size-pos, root-span, each-root}
-use Rattle.expression.specs.Layout.{Laid, laid-content, start-next, text-length}
+use Rattle.expression.specs.Layout.{Laid, there-true, there-false, laid-content, last-end, lay, text-length, text-empty}
 use Rattle.expression.specs.Images.{Image, image-parts}
 use Rattle.expression.specs.Laws.{image-root, is-expression}
 
@@ -82,7 +82,7 @@ pub record Contained (s : List ℕ) (i : ℕ) : Type 0 where
   pub plain : 4 ≤ (nodeAt s i) .kind → (nodeAt s i) .text ≡ []
 
 pub contained : (s : List ℕ) (i : ℕ) → contentOk s i ≡ true → Contained s i
-unfolding contentOk nodeAt isUtf8
+unfolding contentOk isUtf8
 contained s i e =
     cond-true (ltb (endAt s i) (startAt s i)) false _ e (λ _ f. false-true f) (λ a e₁.
     cond-true (ltb (behind s) (endAt s i)) false _ e₁ (λ _ f. false-true f) (λ b e₂.
@@ -91,8 +91,8 @@ contained s i e =
     cond-true (ltb ((nodeAt s i) .kind) 4) _ _ e₂
     (λ c u. record { rising = rise; inside = here; utf8 = u; plain = λ h. absurd (omega (arith, ltb-true ((nodeAt s i) .kind) 4 c)) })
     (λ c z.
-    let q : endAt s i - startAt s i ≡ 0 = omega (arith, eqb-true (endAt s i) (startAt s i) z) in
-    record { rising = rise; inside = here; utf8 = rw q; plain = λ h. rw q })))
+    let q : (nodeAt s i) .text ≡ [] = text-empty s i (eqb-true (endAt s i) (startAt s i) z) in
+    record { rising = rise; inside = here; utf8 = ap isUtf8 q; plain = λ h. q })))
 
 -- only leaves of the kinds 0 to 3 have a content
 plain-at : (v : ℕ → Node) (i : ℕ) (e : Expr) → Root v i e → 4 ≤ (v i) .kind → (v i) .text ≡ []
@@ -222,7 +222,7 @@ good s i before c h =
 -- the reader's loop has passed the nodes before i
 pub record Passed (s : List ℕ) (n last i : ℕ) : Type 0 where
   pub bytes : Bytes s
-  pub room : 5 * nodeCount s + 2 ≤ length s
+  pub room : AllThere s
   pub many : n ≡ nodeCount s
   pub end : last + 1 ≡ n
   pub upto : i ≤ n
@@ -240,8 +240,8 @@ none-read {s} b f = go (expression .read s) refl
     go (some e) p = absurd (f e (image-parts b p))
 
 module _ {s : List ℕ} (e : Expr) (m : Image s e) where
-  pub not-there : leb (5 * nodeCount s + 2) (length s) ≡ false → ⊥
-  not-there h = omega (arith, leb-false (5 * nodeCount s + 2) (length s) h, m .laid .room)
+  pub not-there : allThere s ≡ false → ⊥
+  not-there h = there-false s h (m .laid .room)
 
   pub not-one : nodeCount s ≡ 0 → ⊥
   not-one h = omega (arith, m .many, size-pos e)
@@ -255,21 +255,15 @@ module _ {s : List ℕ} (e : Expr) (m : Image s e) where
       false-true (sym h ∙ shape-complete (nodeAt s) i (t .tree) (t .root))
 
   pub not-filled : 1 ≤ nodeCount s → (endAt s (nodeCount s - 1) ≡ behind s → ⊥) → ⊥
-  unfolding behind
-  not-filled l f = f (omega (arith, start-next s (nodeCount s) l, m .laid .filled))
+  not-filled l f = f (last-end s (m .laid) l)
 
 -- where every node is good and the last content fills the bytes, the last span decides
 decided : {s : List ℕ} → Bytes s → Room s (nodeCount s - 1) → ((j : ℕ) → j < nodeCount s → Good s j) → endAt s (nodeCount s - 1) ≡ behind s
     → eqb ((nodeAt s (nodeCount s - 1)) .span) (nodeCount s) ≡ isSome (expression .read s)
-unfolding behind
 decided {s} b room g f = go (eqb ((nodeAt s (nodeCount s - 1)) .span) (nodeCount s)) refl
   where
     laid : Laid s
-    laid = record {
-      room = room .nodes;
-      rising = λ j l. contained s j (g j l .content) .rising;
-      filled = omega (arith, start-next s (nodeCount s) (omega (arith, room .within)), room .nodes);
-    }
+    laid = lay s (room .nodes) (omega (arith, room .within)) (λ j l. contained s j (g j l .content) .rising) f
 
     go : (r : Bool) → eqb ((nodeAt s (nodeCount s - 1)) .span) (nodeCount s) ≡ r → r ≡ isSome (expression .read s)
     go true q =
@@ -283,10 +277,10 @@ decided {s} b room g f = go (eqb ((nodeAt s (nodeCount s - 1)) .span) (nodeCount
 
 -- ---- the reader's loop
 
-pub begun-room : (s : List ℕ) (r : Bool) → r ≡ leb (5 * nodeCount s + 2) (length s) → not r ≡ false → 5 * nodeCount s + 2 ≤ length s
-begun-room s r e h = leb-true (5 * nodeCount s + 2) (length s) (sym e ∙ not-false r h)
+pub begun-room : (s : List ℕ) (r : Bool) → r ≡ allThere s → not r ≡ false → AllThere s
+begun-room s r e h = there-true s (sym e ∙ not-false r h)
 
-pub begun : {s : List ℕ} (n : ℕ) (r : Bool) → Bytes s → r ≡ leb (5 * nodeCount s + 2) (length s) → not r ≡ false → n ≡ nodeCount s → (n ≡ 0 → ⊥) → Passed s n (n - 1) 0
+pub begun : {s : List ℕ} (n : ℕ) (r : Bool) → Bytes s → r ≡ allThere s → not r ≡ false → n ≡ nodeCount s → (n ≡ 0 → ⊥) → Passed s n (n - 1) 0
 begun {s} n r b e h m z = record {
   bytes = b;
   room = begun-room s r e h;
