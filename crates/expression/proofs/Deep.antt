@@ -1,6 +1,6 @@
 -- How deep the tree at a node is: what the answers for the operands make of the node's.
 -- Assumes nothing.
-use mathlib.Core.Path.{_≡_, _∙_, refl, sym, ap}
+use mathlib.Core.Path.{_≡_, _∙_, sym, ap}
 use mathlib.Core.Bool.{Bool, true, false, not}
 use Prim.Native.Nat.{ℕ, _+_, _-_, _<_, _≤_, max}
 use native.Mathlib.Omega.{arith}
@@ -9,7 +9,7 @@ use lib.Dec.{leb}
 use borrow.Author.Tests.{le-leb, lt-leb, leb-true, leb-false, not-true, not-false}
 use Rattle.tree.specs.Tree.{leaf, un, bin, depth}
 use Rattle.rules.specs.Statements.{Expr}
-use Rattle.expression.specs.Place.{Node, leafOf, unOf, binOf, Root, top}
+use Rattle.expression.specs.Place.{Node, Root, top}
 use Rattle.expression.specs.Heads.{leaf-range}
 use Rattle.expression.specs.Trees.{kindOf}
 use Rattle.expression.specs.Laws.{leaf-at, un-at, bin-at}

@@ -1,29 +1,26 @@
 -- What stands at a node, its kind and its content: each is the one of its kind, the kinds tell leaves, one operand and two apart, and a label's
 -- image is its kind and its content.
 -- Assumes nothing.
-use mathlib.Core.Path.{_≡_, refl, sym, ap, _∙_, subst}
+use mathlib.Core.Path.{_≡_, refl, sym, ap, subst}
 use mathlib.Core.Bool.{Bool, true, false, cond, _&&_}
-use mathlib.Core.List.{List, [], _∷_}
-use mathlib.Core.Option.{Option, none, some}
+use mathlib.Core.List.{[], _∷_}
 use mathlib.Core.Logic.{⊎-elim}
 use Prim.Native.Nat.{ℕ, zero, suc, _+_, _-_, _≤_, _<_}
 use native.Mathlib.Nat.{not-suc-le-zero, le-of-suc-le-suc, eq-or-lt-of-le}
 use native.Mathlib.Omega.{arith}
-use lib.ListN.{getD, getElem?}
 use lib.Dec.{T, ltb, eqb, eqb→eq, lit<, lit≤}
 use borrow.Author.Tests.{le-ltb}
 use Rattle.utf8.specs.Decide.{isUtf8}
-use Rattle.codec.specs.Format.{Format}
 use Rattle.codec.specs.Nodes.{Labels, Label, Label.leafLabel, Label.unLabel, Label.binLabel}
 use Rattle.codec.specs.Run.{labels}
 use Rattle.rules.specs.declared.BoundUnaryOperator.the-variants.{Positive, Negative, Not}
 use Rattle.rules.specs.declared.BoundBinaryOperator.{BoundBinaryOperator}
 use Rattle.rules.specs.declared.BoundBinaryOperator.the-variants as op
 use Rattle.rules.specs.Lists.{Text}
-use Rattle.rules.specs.Marking.{operators, operatorNo}
+use Rattle.rules.specs.Marking.{operatorNo}
 use Rattle.rules.specs.Theorems.Table.{operator-found}
 use Rattle.rules.specs.Statements.{Leaf, Unary, parentheses, nullTest, unary, otherUnary, Binary, binary, otherBinary}
-use Rattle.expression.specs.Expression.{nameOf, leafCodes, unaries, unaryNo, unaryCodes, binaryCodes}
+use Rattle.expression.specs.Expression.{nameOf, leafCodes, unaryCodes, binaryCodes}
 use Rattle.expression.specs.Place.{nameKind, truthKind, leafKind, leafText, unKind, binKind, leafOf, unOf, binOf}
 
 -- ---- each is the one of its kind

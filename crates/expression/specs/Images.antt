@@ -12,7 +12,6 @@ use lib.ListN.{length}
 use Rattle.wire.specs.Le.{Bytes}
 use Rattle.utf8.specs.Decide.{isUtf8}
 use Rattle.tree.specs.Tree.{size}
-use Rattle.codec.specs.Format.{Format}
 use Rattle.codec.specs.Ways.{next}
 use Rattle.codec.specs.Laws.{next-some}
 use Rattle.codec.specs.Nodes.{nodesOf, labelsOf, treeOf, runRead}

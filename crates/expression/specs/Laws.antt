@@ -2,21 +2,21 @@
 -- an image is the root of a tree (`every-node`). Going down: what stands at a node by its kind, and where its operands are (`leaf-at`, `un-at`,
 -- `bin-at`).
 -- Assumes nothing.
-use mathlib.Core.Path.{_≡_, _∙_, refl, sym, ap, subst}
-use mathlib.Core.Bool.{Bool, true, false, false≢true}
+use mathlib.Core.Path.{_≡_, _∙_, refl, sym, ap}
+use mathlib.Core.Bool.{true, false, false≢true}
 use mathlib.Core.Option.{Option, none, some}
-use mathlib.Core.List.{List, []}
+use mathlib.Core.List.{List}
 use Prim.Native.Nat.{ℕ, _+_, _-_, _<_, _≤_}
 use native.Mathlib.Omega.{arith}
 use Rattle.wire.specs.Le.{Bytes}
 use Rattle.utf8.specs.Decide.{isUtf8}
 use Rattle.tree.specs.Tree.{leaf, un, bin, size}
-use Rattle.rules.specs.Lists.{Text, isSome}
-use Rattle.rules.specs.Statements.{Leaf, Expr}
+use Rattle.rules.specs.Lists.{isSome}
+use Rattle.rules.specs.Statements.{Expr}
 use Rattle.expression.specs.Expression.{expression}
-use Rattle.expression.specs.Place.{Node, nodeCount, nodeAt, leafKind, leafText, leafOf, unOf, binOf, top, Root, HasTree, IsExpression, IsImage, HasNode, Room, Content}
+use Rattle.expression.specs.Place.{Node, nodeCount, nodeAt, leafOf, unOf, binOf, top, Root, HasTree, IsExpression, IsImage, HasNode, Room, Content}
 use Rattle.expression.specs.Heads.{leaf-of, un-of, bin-of, leaf-range, un-range, bin-range}
-use Rattle.expression.specs.Trees.{kindOf, textOf, root-span, size-pos, lies-root, root-lies, each-root}
+use Rattle.expression.specs.Trees.{kindOf, root-span, size-pos, lies-root, root-lies, each-root}
 use Rattle.expression.specs.Layout.{Laid, laid-room, laid-content}
 use Rattle.expression.specs.Images.{Image, image-parts, parts-image}
 

@@ -1,17 +1,17 @@
 -- The laws of the layout: what codec's reader of nodes gives, by positions. Only this file and the proofs of src/layout.rt look into `nodeAt`.
 -- Assumes nothing.
-use mathlib.Core.Path.{_≡_, _∙_, refl, sym, ap, ap₂, subst}
-use mathlib.Core.Bool.{Bool, true, false, cond}
-use mathlib.Core.Option.{Option, none, some, Option·none-ne-some, Option·some-injective}
+use mathlib.Core.Path.{_≡_, _∙_, refl, sym, ap, subst}
+use mathlib.Core.Bool.{true, false}
+use mathlib.Core.Option.{some, Option·some-injective}
 use mathlib.Core.Logic.{⊎-elim}
-use mathlib.Core.List.{List, [], _∷_, _++_, map}
-use Prim.Native.Nat.{ℕ, zero, suc, _+_, _-_, _*_, _^_, _<_, _≤_}
+use mathlib.Core.List.{List, [], _∷_, map}
+use Prim.Native.Nat.{ℕ, zero, suc, _+_, _-_, _*_, _<_, _≤_}
 use native.Mathlib.Omega.{arith}
 use native.Mathlib.Nat.{zero-add, suc-add, eq-or-lt-of-le}
-use lib.ListN.{length, take, drop, getD, length-append, length-take, length-drop, take-append-drop}
-use lib.Seq.{take-nil, take-take, drop-drop, getD-drop, length-take-le, drop-length, take-all}
-use lib.Dec.{leb, eqb}
-use borrow.Author.Tests.{le-leb, eq-eqb, eqb-true}
+use lib.ListN.{length, take, drop, getD, length-append, length-take, length-drop}
+use lib.Seq.{take-nil, take-take, drop-drop, getD-drop, length-take-le, drop-length}
+use lib.Dec.{eqb}
+use borrow.Author.Tests.{le-leb, eq-eqb, eqb-true, leb-true, leb-false}
 use Rattle.wire.specs.Le.{Bytes, num, take-bytes, drop-bytes, cons-bytes}
 use Rattle.codec.specs.Format.{Format, Fixed}
 use Rattle.codec.specs.Ways.{next, joined, numberRead, headedRead, rowRead, cutRead}
@@ -20,13 +20,13 @@ use Rattle.codec.specs.Layout.{number, row, headed}
 use Rattle.codec.specs.Nodes.{sums, steps, cutAtRead, mend}
 use Rattle.codec.specs.NodeLaws.{cut-at-back}
 use Rattle.codec.specs.Run.{node, cutAt, nodeList}
-use Rattle.expression.specs.Place.{Node, nodeCount, endAt, startAt, nodeAt, behind, Room, Content}
+use Rattle.expression.specs.Place.{Node, nodeCount, endAt, startAt, nodeAt, behind, allThere, AllThere, Room, Content}
 
 -- ---- well laid
 
 pub record Laid (s : List ℕ) : Type 0 where
   -- the nodes are there
-  pub room : 5 * nodeCount s + 2 ≤ length s
+  pub room : AllThere s
   -- no end falls
   pub rising : (j : ℕ) → j < nodeCount s → startAt s j ≤ endAt s j
   -- the contents fill the rest
@@ -243,6 +243,12 @@ module _ (s : List ℕ) where
       let m : cutAtRead (map (λ (x : Row). x .1 .1) (rowsAt 0 n)) (drop (n * 5) (drop 2 s)) ≡ some cs = rw (r .1) at e₅ in
       contents-back b (rw (c .1) at (r .0)) cs (rw (c .1) at m))))
 
+pub there-true : (s : List ℕ) → allThere s ≡ true → AllThere s
+there-true s h = leb-true (5 * nodeCount s + 2) (length s) h
+
+pub there-false : (s : List ℕ) → allThere s ≡ false → AllThere s → ⊥
+there-false s h k = omega (arith, leb-false (5 * nodeCount s + 2) (length s) h)
+
 pub laid-room : {s : List ℕ} → Laid s → (i : ℕ) → i < nodeCount s → Room s i
 laid-room d i h = record { nodes = d .room; within = h }
 
@@ -261,6 +267,19 @@ pub start-next : (s : List ℕ) (i : ℕ) → 1 ≤ i → startAt s i ≡ endAt 
 unfolding startAt
 start-next s zero h = absurd (omega arith)
 start-next s (suc i) h = let e : suc i - 1 ≡ i = omega arith in rw e
+
+-- the last content ends where the bytes end
+pub last-end : (s : List ℕ) → Laid s → 1 ≤ nodeCount s → endAt s (nodeCount s - 1) ≡ behind s
+unfolding behind
+last-end s d h = omega (arith, start-next s (nodeCount s) h, d .filled)
+
+pub lay : (s : List ℕ) → AllThere s → 1 ≤ nodeCount s → ((j : ℕ) → j < nodeCount s → startAt s j ≤ endAt s j) → endAt s (nodeCount s - 1) ≡ behind s → Laid s
+unfolding behind
+lay s room one rise e = record { room = room; rising = rise; filled = omega (arith, start-next s (nodeCount s) one) }
+
+pub text-empty : (s : List ℕ) (i : ℕ) → endAt s i ≡ startAt s i → (nodeAt s i) .text ≡ []
+unfolding nodeAt
+text-empty s i h = let e : endAt s i - startAt s i ≡ 0 = omega arith in rw e
 
 -- a node's content as the part of the bytes that it is
 pub text-part : (s : List ℕ) (i n from to : ℕ) → n ≡ nodeCount s → from ≡ startAt s i → to ≡ endAt s i

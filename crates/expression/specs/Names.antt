@@ -16,8 +16,8 @@ use Rattle.codec.specs.NodeLaws.{nodes-length}
 use Rattle.rules.specs.Lists.{all, any}
 use Rattle.rules.specs.Limits.{leafNames, expressionNames, nameWithin}
 use Rattle.rules.specs.Names.{beyondAscii}
-use Rattle.rules.specs.Statements.{Name, Leaf, Unary, Binary, Expr}
-use Rattle.expression.specs.Place.{Node, nodeCount, nodeAt, nameKind, truthKind, leafKind, leafText, unKind, binKind, IsExpression, IsImage, HasNode}
+use Rattle.rules.specs.Statements.{Name, Leaf, Expr}
+use Rattle.expression.specs.Place.{Node, nodeCount, nodeAt, leafKind, leafText, unKind, binKind, IsExpression, IsImage, HasNode}
 use Rattle.expression.specs.Heads.{Head, headKind, headText, un-range, bin-range}
 use Rattle.expression.specs.Trees.{nodeOf, Lies}
 use Rattle.expression.specs.Images.{image-parts}
@@ -165,8 +165,8 @@ module _ {f : List Name → Bool} {z : Bool} (look : Look f z) {s : List ℕ} {n
   said : (r : Bool) → f (namesFrom (nodeAt s) i (n - i)) ≡ r → Says f s r
   said r h e g = sym (ap f (image-names (p .bytes) g) ∙ ap (λ (k : ℕ). f (namesFrom (nodeAt s) 0 k)) (sym (p .many)) ∙ p .rest ∙ h)
 
-  pub has-node : i < n → HasNode s i
-  has-node l = record { image = p .image; within = omega (arith, p .many) }
+  pub has-node : (j : ℕ) → j < n → HasNode s j
+  has-node j l = record { image = p .image; within = omega (arith, p .many) }
 
   pub passes : i < n → f (nodeNames (nodeAt s i)) ≡ z → Passed f s n (i + 1)
   passes l h = record {

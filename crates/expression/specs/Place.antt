@@ -1,5 +1,5 @@
 -- An expression's run by positions: where a node's bytes lie (docs/IMAGES.md, "An expression's node"), and where a tree stands among the nodes.
--- Only `nodeCount` to `Content`, the accessors of src/layout.rt and `Layout.antt` know a byte position: all else sees nodes by
+-- Only the definitions from `nodeCount` to `Room`, `Layout.antt`, and src/layout.rt with its proofs know a byte position: all else sees nodes by
 -- their numbers.
 -- Assumes nothing: these are definitions.
 use mathlib.Core.Path.{_≡_}
@@ -8,6 +8,7 @@ use mathlib.Core.List.{List, [], _∷_}
 use mathlib.Core.Option.{Option, none, some}
 use Prim.Native.Nat.{ℕ, zero, suc, _+_, _-_, _*_, _≤_, _<_}
 use lib.ListN.{length, take, drop, getD, getElem?}
+use lib.Dec.{leb}
 use Rattle.wire.specs.Le.{num}
 use Rattle.tree.specs.Tree.{leaf, un, bin, size}
 use Rattle.rules.specs.declared.BoundBinaryOperator.{BoundBinaryOperator}
@@ -47,9 +48,16 @@ nodeAt s i = record {
 unfoldable pub behind : List ℕ → ℕ
 behind s = length s - (5 * nodeCount s + 2)
 
+-- as many nodes are there as the count says
+abbrev pub allThere : List ℕ → Bool
+allThere s = leb (5 * nodeCount s + 2) (length s)
+
+abbrev pub AllThere : List ℕ → Type 0
+AllThere s = 5 * nodeCount s + 2 ≤ length s
+
 -- the nodes are there, and node i is one of them
 pub record Room (s : List ℕ) (i : ℕ) : Type 0 where
-  pub nodes : 5 * nodeCount s + 2 ≤ length s
+  pub nodes : AllThere s
   pub within : i < nodeCount s
 
 -- and so is its content

@@ -1,26 +1,26 @@
 -- What the reader tests at each node, and that those tests tell an image from other bytes.
 -- Assumes nothing.
-use mathlib.Core.Path.{_≡_, _∙_, refl, sym, ap, subst}
+use mathlib.Core.Path.{_≡_, _∙_, refl, sym, ap}
 use mathlib.Core.Bool.{Bool, true, false, cond, not, false≢true}
 use mathlib.Core.Option.{Option, none, some}
 use mathlib.Core.List.{List, []}
-use Prim.Native.Nat.{ℕ, _+_, _-_, _*_, _<_, _≤_}
+use Prim.Native.Nat.{ℕ, _+_, _-_, _<_, _≤_}
 use native.Mathlib.Omega.{arith}
 use native.Mathlib.Decide.{decLt}
-use lib.ListN.{length, take}
+use lib.ListN.{length}
 use lib.Dec.{leb, ltb, eqb}
-use borrow.Author.Tests.{le-leb, lt-leb, leb-true, leb-false, lt-ltb, le-ltb, ltb-true, ltb-false, eq-eqb, ne-eqb, eqb-true, eqb-false, not-true, not-false}
+use borrow.Author.Tests.{le-leb, lt-leb, leb-false, lt-ltb, le-ltb, ltb-true, ltb-false, eq-eqb, ne-eqb, eqb-true, eqb-false, not-true, not-false}
 use borrow.Author.Count.{below-more}
 use Rattle.wire.specs.Le.{Bytes}
 use Rattle.utf8.specs.Decide.{isUtf8}
 use Rattle.tree.specs.Tree.{leaf, un, bin, size}
 use Rattle.rules.specs.Lists.{isSome}
-use Rattle.rules.specs.Statements.{Leaf, Expr}
+use Rattle.rules.specs.Statements.{Expr}
 use Rattle.expression.specs.Expression.{expression}
-use Rattle.expression.specs.Place.{Node, nodeCount, endAt, startAt, nodeAt, behind, Room, Content, leafKind, leafOf, unOf, binOf, top, Root, HasTree, IsExpression}
+use Rattle.expression.specs.Place.{Node, nodeCount, endAt, startAt, nodeAt, behind, allThere, AllThere, Room, Content, leafOf, unOf, binOf, top, Root, HasTree}
 use Rattle.expression.specs.Heads.{leaf-range, un-range, bin-range, leaf-kind, leaf-text, un-kind, bin-kind, no-text}
 use Rattle.expression.specs.Trees.{kindOf, spanOf, textOf, size-pos, root-span, each-root}
-use Rattle.expression.specs.Layout.{Laid, laid-content, start-next, text-length}
+use Rattle.expression.specs.Layout.{Laid, there-true, there-false, laid-content, last-end, lay, text-length, text-empty}
 use Rattle.expression.specs.Images.{Image, image-parts}
 use Rattle.expression.specs.Laws.{image-root, is-expression}
 
@@ -55,6 +55,26 @@ false-true e = absurd (false≢true e)
 
 -- ---- contents
 
+-- how the test goes, by what the numbers are
+module _ (s : List ℕ) (i : ℕ) where
+  pub content-falls : endAt s i < startAt s i → contentOk s i ≡ false
+  unfolding contentOk
+  content-falls a = rw (lt-ltb (endAt s i) (startAt s i) a)
+
+  module _ (a : startAt s i ≤ endAt s i) where
+    pub content-outside : behind s < endAt s i → contentOk s i ≡ false
+    unfolding contentOk
+    content-outside b = rw (le-ltb (endAt s i) (startAt s i) a, lt-ltb (behind s) (endAt s i) b)
+
+    module _ (b : endAt s i ≤ behind s) where
+      pub content-text : (nodeAt s i) .kind < 4 → contentOk s i ≡ isUtf8 ((nodeAt s i) .text)
+      unfolding contentOk
+      content-text k = rw (le-ltb (endAt s i) (startAt s i) a, le-ltb (behind s) (endAt s i) b, lt-ltb ((nodeAt s i) .kind) 4 k)
+
+      pub content-plain : 4 ≤ (nodeAt s i) .kind → contentOk s i ≡ eqb (endAt s i) (startAt s i)
+      unfolding contentOk
+      content-plain k = rw (le-ltb (endAt s i) (startAt s i) a, le-ltb (behind s) (endAt s i) b, le-ltb ((nodeAt s i) .kind) 4 k)
+
 pub record Contained (s : List ℕ) (i : ℕ) : Type 0 where
   pub rising : startAt s i ≤ endAt s i
   pub inside : endAt s i ≤ behind s
@@ -62,7 +82,7 @@ pub record Contained (s : List ℕ) (i : ℕ) : Type 0 where
   pub plain : 4 ≤ (nodeAt s i) .kind → (nodeAt s i) .text ≡ []
 
 pub contained : (s : List ℕ) (i : ℕ) → contentOk s i ≡ true → Contained s i
-unfolding contentOk nodeAt isUtf8
+unfolding contentOk isUtf8
 contained s i e =
     cond-true (ltb (endAt s i) (startAt s i)) false _ e (λ _ f. false-true f) (λ a e₁.
     cond-true (ltb (behind s) (endAt s i)) false _ e₁ (λ _ f. false-true f) (λ b e₂.
@@ -71,8 +91,8 @@ contained s i e =
     cond-true (ltb ((nodeAt s i) .kind) 4) _ _ e₂
     (λ c u. record { rising = rise; inside = here; utf8 = u; plain = λ h. absurd (omega (arith, ltb-true ((nodeAt s i) .kind) 4 c)) })
     (λ c z.
-    let q : endAt s i - startAt s i ≡ 0 = omega (arith, eqb-true (endAt s i) (startAt s i) z) in
-    record { rising = rise; inside = here; utf8 = rw q; plain = λ h. rw q })))
+    let q : (nodeAt s i) .text ≡ [] = text-empty s i (eqb-true (endAt s i) (startAt s i) z) in
+    record { rising = rise; inside = here; utf8 = ap isUtf8 q; plain = λ h. q })))
 
 -- only leaves of the kinds 0 to 3 have a content
 plain-at : (v : ℕ → Node) (i : ℕ) (e : Expr) → Root v i e → 4 ≤ (v i) .kind → (v i) .text ≡ []
@@ -82,46 +102,66 @@ plain-at v i (un o a) h k = ap textOf (h .0)
 plain-at v i (bin o a b) h k = ap textOf (h .0)
 
 pub content-complete : (s : List ℕ) (e : Expr) → Image s e → (i : ℕ) → i < nodeCount s → contentOk s i ≡ true
-unfolding contentOk
-content-complete s e m i h =
-    let c = laid-content (m .laid) i h in
-    let t = each-root (nodeAt s) 0 e (m .lies) i (omega arith) (omega (arith, m .many)) in
-    rw (le-ltb (endAt s i) (startAt s i) (c .rising), le-ltb (behind s) (endAt s i) (c .inside)) (go c (t .tree) (t .root) (ltb ((nodeAt s i) .kind) 4) refl)
+content-complete s e m i h = go (decLt ((nodeAt s i) .kind) 4)
   where
-    empty : Content s i → (nodeAt s i) .text ≡ [] → endAt s i ≡ startAt s i
-    empty c z = omega (arith, text-length s i c, ap length z, c .rising)
+    c : Content s i
+    c = laid-content (m .laid) i h
 
-    go : Content s i → (f : Expr) → Root (nodeAt s) i f → (b : Bool) → ltb ((nodeAt s i) .kind) 4 ≡ b → cond b (isUtf8 ((nodeAt s i) .text)) (eqb (endAt s i) (startAt s i)) ≡ true
-    go c f r true q = m .texts i h
-    go c f r false q = eq-eqb (endAt s i) (startAt s i) (empty c (plain-at (nodeAt s) i f r (ltb-false ((nodeAt s i) .kind) 4 q)))
+    empty : (nodeAt s i) .text ≡ [] → endAt s i ≡ startAt s i
+    empty z = omega (arith, text-length s i c, ap length z, c .rising)
+
+    go : Dec ((nodeAt s i) .kind < 4) → contentOk s i ≡ true
+    go (yes k) = content-text s i (c .rising) (c .inside) k ∙ m .texts i h
+    go (no k) =
+        let t = each-root (nodeAt s) 0 e (m .lies) i (omega arith) (omega (arith, m .many)) in
+        let lo : 4 ≤ (nodeAt s i) .kind = omega arith in
+        content-plain s i (c .rising) (c .inside) lo ∙ eq-eqb (endAt s i) (startAt s i) (empty (plain-at (nodeAt s) i (t .tree) (t .root) lo))
 
 -- ---- shapes
 
+-- how the test goes, by what the numbers are
+module _ (v : ℕ → Node) (i : ℕ) where
+  pub shape-leaf : (v i) .kind < 9 → shapeOk v i ≡ eqb ((v i) .span) 1
+  unfolding shapeOk
+  shape-leaf k = rw (lt-ltb ((v i) .kind) 9 k)
+
+  pub shape-high : 30 ≤ (v i) .kind → shapeOk v i ≡ false
+  unfolding shapeOk
+  shape-high k = rw (le-ltb ((v i) .kind) 9 (omega arith), le-leb 30 ((v i) .kind) k)
+
+  module _ (hi : (v i) .kind < 30) where
+    pub shape-first : 9 ≤ (v i) .kind → i ≡ 0 → shapeOk v i ≡ false
+    unfolding shapeOk
+    shape-first lo z = rw (le-ltb ((v i) .kind) 9 lo, lt-leb 30 ((v i) .kind) hi, eq-eqb i 0 z)
+
+    module _ (room : i ≡ 0 → ⊥) where
+      pub shape-one : 9 ≤ (v i) .kind → (v i) .kind < 16 → shapeOk v i ≡ eqb ((v i) .span) ((v (i - 1)) .span + 1)
+      unfolding shapeOk
+      shape-one lo k = rw (le-ltb ((v i) .kind) 9 lo, lt-leb 30 ((v i) .kind) hi, ne-eqb i 0 room, lt-ltb ((v i) .kind) 16 k)
+
+      pub shape-under : 16 ≤ (v i) .kind → i ≤ (v (i - 1)) .span → shapeOk v i ≡ false
+      unfolding shapeOk
+      shape-under lo l =
+          rw (le-ltb ((v i) .kind) 9 (omega arith), lt-leb 30 ((v i) .kind) hi, ne-eqb i 0 room, le-ltb ((v i) .kind) 16 lo, le-leb i ((v (i - 1)) .span) l)
+
+      pub shape-two : 16 ≤ (v i) .kind → (v (i - 1)) .span < i → shapeOk v i ≡ eqb ((v i) .span) ((v (i - 1 - (v (i - 1)) .span)) .span + (v (i - 1)) .span + 1)
+      unfolding shapeOk
+      shape-two lo l =
+          rw (le-ltb ((v i) .kind) 9 (omega arith), lt-leb 30 ((v i) .kind) hi, ne-eqb i 0 room, le-ltb ((v i) .kind) 16 lo, lt-leb i ((v (i - 1)) .span) l)
+
 module _ (v : ℕ → Node) (i : ℕ) where
   pub shape-complete : (e : Expr) → Root v i e → shapeOk v i ≡ true
-  unfolding shapeOk Root top size
-  shape-complete (leaf l) h =
-      let k : (v i) .kind < 9 = omega (arith, leaf-range l, ap kindOf h) in
-      rw (lt-ltb ((v i) .kind) 9 k, eq-eqb ((v i) .span) 1 (ap spanOf h))
+  unfolding Root top size
+  shape-complete (leaf l) h = shape-leaf v i (omega (arith, leaf-range l, ap kindOf h)) ∙ eq-eqb ((v i) .span) 1 (ap spanOf h)
   shape-complete (un o a) h =
       let k : (9 ≤ (v i) .kind) × ((v i) .kind < 16) = omega (arith, un-range o, ap kindOf (h .0)) in
-      let n : (v i) .span ≡ (v (i - 1)) .span + 1 = omega (arith, ap spanOf (h .0), root-span v (i - 1) a (h .2)) in
-      let z : i ≡ 0 → ⊥ = λ z. omega (arith, h .1) in
-      rw (le-ltb ((v i) .kind) 9 (k .0), lt-leb 30 ((v i) .kind) (omega arith), ne-eqb i 0 z, lt-ltb ((v i) .kind) 16 (k .1), eq-eqb ((v i) .span) ((v (i - 1)) .span + 1) n)
+      shape-one v i (omega arith) (λ z. omega (arith, h .1)) (k .0) (k .1) ∙ eq-eqb ((v i) .span) ((v (i - 1)) .span + 1) (omega (arith, ap spanOf (h .0), root-span v (i - 1) a (h .2)))
   shape-complete (bin o a b) h =
       let k : (16 ≤ (v i) .kind) × ((v i) .kind < 30) = omega (arith, bin-range o, ap kindOf (h .0)) in
       let q : (v (i - 1)) .span ≡ size b = root-span v (i - 1) b (h .3) in
       let l : (v (i - 1 - (v (i - 1)) .span)) .span ≡ size a = rw q (root-span v (i - 1 - size b) a (h .2)) in
-      let n : (v i) .span ≡ (v (i - 1 - (v (i - 1)) .span)) .span + (v (i - 1)) .span + 1 = omega (arith, ap spanOf (h .0)) in
-      let z : i ≡ 0 → ⊥ = λ z. omega (arith, h .1) in
-      rw (
-        le-ltb ((v i) .kind) 9 (omega arith),
-        lt-leb 30 ((v i) .kind) (k .1),
-        ne-eqb i 0 z,
-        le-ltb ((v i) .kind) 16 (k .0),
-        lt-leb i ((v (i - 1)) .span) (omega (arith, h .1)),
-        eq-eqb ((v i) .span) ((v (i - 1 - (v (i - 1)) .span)) .span + (v (i - 1)) .span + 1) n,
-      )
+      shape-two v i (k .1) (λ z. omega (arith, h .1)) (k .0) (omega (arith, h .1))
+      ∙ eq-eqb ((v i) .span) ((v (i - 1 - (v (i - 1)) .span)) .span + (v (i - 1)) .span + 1) (omega (arith, ap spanOf (h .0)))
 
   leaf-tree : (v i) .kind < 9 → (4 ≤ (v i) .kind → (v i) .text ≡ []) → (v i) .span ≡ 1 → HasTree v i
   unfolding Root top
@@ -182,7 +222,7 @@ good s i before c h =
 -- the reader's loop has passed the nodes before i
 pub record Passed (s : List ℕ) (n last i : ℕ) : Type 0 where
   pub bytes : Bytes s
-  pub room : 5 * nodeCount s + 2 ≤ length s
+  pub room : AllThere s
   pub many : n ≡ nodeCount s
   pub end : last + 1 ≡ n
   pub upto : i ≤ n
@@ -200,8 +240,8 @@ none-read {s} b f = go (expression .read s) refl
     go (some e) p = absurd (f e (image-parts b p))
 
 module _ {s : List ℕ} (e : Expr) (m : Image s e) where
-  pub not-there : leb (5 * nodeCount s + 2) (length s) ≡ false → ⊥
-  not-there h = omega (arith, leb-false (5 * nodeCount s + 2) (length s) h, m .laid .room)
+  pub not-there : allThere s ≡ false → ⊥
+  not-there h = there-false s h (m .laid .room)
 
   pub not-one : nodeCount s ≡ 0 → ⊥
   not-one h = omega (arith, m .many, size-pos e)
@@ -215,21 +255,15 @@ module _ {s : List ℕ} (e : Expr) (m : Image s e) where
       false-true (sym h ∙ shape-complete (nodeAt s) i (t .tree) (t .root))
 
   pub not-filled : 1 ≤ nodeCount s → (endAt s (nodeCount s - 1) ≡ behind s → ⊥) → ⊥
-  unfolding behind
-  not-filled l f = f (omega (arith, start-next s (nodeCount s) l, m .laid .filled))
+  not-filled l f = f (last-end s (m .laid) l)
 
 -- where every node is good and the last content fills the bytes, the last span decides
 decided : {s : List ℕ} → Bytes s → Room s (nodeCount s - 1) → ((j : ℕ) → j < nodeCount s → Good s j) → endAt s (nodeCount s - 1) ≡ behind s
     → eqb ((nodeAt s (nodeCount s - 1)) .span) (nodeCount s) ≡ isSome (expression .read s)
-unfolding behind
 decided {s} b room g f = go (eqb ((nodeAt s (nodeCount s - 1)) .span) (nodeCount s)) refl
   where
     laid : Laid s
-    laid = record {
-      room = room .nodes;
-      rising = λ j l. contained s j (g j l .content) .rising;
-      filled = omega (arith, start-next s (nodeCount s) (omega (arith, room .within)), room .nodes);
-    }
+    laid = lay s (room .nodes) (omega (arith, room .within)) (λ j l. contained s j (g j l .content) .rising) f
 
     go : (r : Bool) → eqb ((nodeAt s (nodeCount s - 1)) .span) (nodeCount s) ≡ r → r ≡ isSome (expression .read s)
     go true q =
@@ -243,10 +277,10 @@ decided {s} b room g f = go (eqb ((nodeAt s (nodeCount s - 1)) .span) (nodeCount
 
 -- ---- the reader's loop
 
-pub begun-room : (s : List ℕ) (r : Bool) → r ≡ leb (5 * nodeCount s + 2) (length s) → not r ≡ false → 5 * nodeCount s + 2 ≤ length s
-begun-room s r e h = leb-true (5 * nodeCount s + 2) (length s) (sym e ∙ not-false r h)
+pub begun-room : (s : List ℕ) (r : Bool) → r ≡ allThere s → not r ≡ false → AllThere s
+begun-room s r e h = there-true s (sym e ∙ not-false r h)
 
-pub begun : {s : List ℕ} (n : ℕ) (r : Bool) → Bytes s → r ≡ leb (5 * nodeCount s + 2) (length s) → not r ≡ false → n ≡ nodeCount s → (n ≡ 0 → ⊥) → Passed s n (n - 1) 0
+pub begun : {s : List ℕ} (n : ℕ) (r : Bool) → Bytes s → r ≡ allThere s → not r ≡ false → n ≡ nodeCount s → (n ≡ 0 → ⊥) → Passed s n (n - 1) 0
 begun {s} n r b e h m z = record {
   bytes = b;
   room = begun-room s r e h;

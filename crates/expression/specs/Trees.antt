@@ -2,7 +2,7 @@
 -- node of it is some tree's root.
 -- Nothing here knows where a node's bytes lie.
 -- Assumes nothing.
-use mathlib.Core.Path.{_≡_, _∙_, refl, sym, ap, subst}
+use mathlib.Core.Path.{_≡_, _∙_, sym, ap, subst}
 use mathlib.Core.List.{List, [], _∷_, _++_}
 use Prim.Native.Nat.{ℕ, suc, _+_, _-_, _<_, _≤_}
 use native.Mathlib.Omega.{arith}
@@ -10,10 +10,10 @@ use native.Mathlib.Decide.{decLt}
 use native.Mathlib.Nat.{add-zero}
 use lib.ListN.{length, length-append}
 use Rattle.tree.specs.Tree.{leaf, un, bin, size}
-use Rattle.codec.specs.Nodes.{Label, Label.leafLabel, Label.unLabel, Label.binLabel, nodesOf}
+use Rattle.codec.specs.Nodes.{Label.unLabel, Label.binLabel, nodesOf}
 use Rattle.codec.specs.NodeLaws.{nodes-length}
-use Rattle.rules.specs.Statements.{Leaf, Unary, Binary, Expr}
-use Rattle.expression.specs.Place.{Node, leafKind, leafText, unKind, binKind, leafOf, unOf, binOf, top, Root, HasTree}
+use Rattle.rules.specs.Statements.{Unary, Binary, Expr}
+use Rattle.expression.specs.Place.{Node, leafKind, leafText, unKind, binKind, unOf, binOf, top, Root, HasTree}
 use Rattle.expression.specs.Heads.{Head, headKind, headText, leaf-of, un-of, bin-of, leaf-range, un-range, bin-range}
 
 abbrev pub kindOf : Node → ℕ

@@ -1,10 +1,9 @@
 // Where a node's bytes lie. No other file of src/ reads a run's bytes.
 ghost use mathlib.Core.Path.{_≡_};
-ghost use Prim.Native.Nat.{_+_, _*_, _≤_, _<_};
+ghost use Prim.Native.Nat.{_+_, _≤_, _<_};
 ghost use lib.ListN.{length};
-ghost use lib.Dec.{leb};
 ghost use Rattle.wire.specs.Le.{Got};
-ghost use Rattle.expression.specs.Place.{nodeCount, endAt, startAt, nodeAt, behind, Room, Content};
+ghost use Rattle.expression.specs.Place.{nodeCount, endAt, startAt, nodeAt, behind, allThere, AllThere, Room, Content};
 
 // The number in the two bytes at `at`.
 fn two(s: &[u8], at: usize) -> usize
@@ -23,7 +22,7 @@ pub fn count(s: &[u8]) -> usize
 
 // Whether as many nodes are there as the count says.
 pub fn all_there(s: &[u8]) -> bool
-    ensures { λ r. ⌜ r ≡ leb (5 * nodeCount (now (s .entry)) + 2) (length (now (s .entry))) ⌝ }
+    ensures { λ r. ⌜ r ≡ allThere (now (s .entry)) ⌝ }
 {
     if s.len() < 2 {
         return false;
@@ -32,7 +31,7 @@ pub fn all_there(s: &[u8]) -> bool
 }
 
 pub fn bytes_behind(s: &[u8]) -> usize
-    requires { ⌜ 5 * nodeCount (now s) + 2 ≤ length (now s) ⌝ }
+    requires { ⌜ AllThere (now s) ⌝ }
     ensures { λ r. ⌜ r ≡ behind (now (s .entry)) ⌝ }
 {
     s.len() - (5 * count(s) + 2)

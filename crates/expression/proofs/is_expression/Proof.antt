@@ -35,16 +35,16 @@ loop-holds : tie.Need-loop-holds Inv-loop μ-loop
 loop-holds c = begun _ _ (known (c .before .before .before .before .shared-slice-known .given)) (c .before .before .before .all-there .ensures) (c .before .before .if1 .left) (c .before .count .ensures .0) (c .if2 .left)
 
 content-ok-requires : tie.Need-content-ok-requires Inv-loop μ-loop
-content-ok-requires c κs = passed-room (c .before .loop .inv) _ (c .loop-test .taken)
+content-ok-requires c κs = passed-room (c .before .loop .inv) _ (omega arith)
 
 returns-3 : tie.Need-returns-3 Inv-loop μ-loop
-returns-3 c = stopped-content (c .before .before .before .loop .inv) (c .before .before .loop-test .taken) _ (c .before .content-ok .ensures) (c .if3 .taken)
+returns-3 c = stopped-content (c .before .before .before .loop .inv) (omega arith) _ (c .before .content-ok .ensures) (c .if3 .taken)
 
 shape-ok-requires : tie.Need-shape-ok-requires Inv-loop μ-loop
-shape-ok-requires c κs = passed-room (c .before .before .before .loop .inv) _ (c .before .before .loop-test .taken)
+shape-ok-requires c κs = passed-room (c .before .before .before .loop .inv) _ (omega arith)
 
 returns-4 : tie.Need-returns-4 Inv-loop μ-loop
-returns-4 c = stopped-shape (c .before .before .before .before .before .loop .inv) (c .before .before .before .before .loop-test .taken) _ (c .before .shape-ok .ensures) (c .if4 .taken)
+returns-4 c = stopped-shape (c .before .before .before .before .before .loop .inv) (omega arith) _ (c .before .shape-ok .ensures) (c .if4 .taken)
 
 add-i : tie.Need-add-i Inv-loop μ-loop
 add-i c = search needs
@@ -53,7 +53,7 @@ loop-less : tie.Need-loop-less Inv-loop μ-loop
 loop-less c = search needs
 
 loop-again : tie.Need-loop-again Inv-loop μ-loop
-loop-again c = passes (c .before .before .before .before .before .loop .inv) (c .before .before .before .before .loop-test .taken) _ _ (c .before .before .before .content-ok .ensures) (c .before .before .if3 .left) (c .before .shape-ok .ensures) (c .if4 .left)
+loop-again c = passes (c .before .before .before .before .before .loop .inv) (omega arith) _ _ (c .before .before .before .content-ok .ensures) (c .before .before .if3 .left) (c .before .shape-ok .ensures) (c .if4 .left)
 
 end-requires : tie.Need-end-requires Inv-loop μ-loop
 end-requires c κs = passed-room (c .before .loop .inv) _ (omega arith)
@@ -68,7 +68,7 @@ span-requires : tie.Need-span-requires Inv-loop μ-loop
 span-requires c κs = passed-room (c .before .before .before .before .loop .inv) _ (omega arith)
 
 returns-6 : tie.Need-returns-6 Inv-loop μ-loop
-returns-6 c = last-decides (c .before .before .before .before .before .loop .inv) (c .before .before .before .before .loop-test .left) _ _ _ (c .before .before .before .end .ensures .0) (c .before .before .bytes-behind .ensures) (c .before .if5 .left) (c .span .ensures .0)
+returns-6 c = last-decides (c .before .before .before .before .before .loop .inv) (omega arith) _ _ _ (c .before .before .before .end .ensures .0) (c .before .before .bytes-behind .ensures) (c .before .if5 .left) (c .span .ensures .0)
 
 pub is-expression-spec : {M : Type 1} → statement M
 is-expression-spec =

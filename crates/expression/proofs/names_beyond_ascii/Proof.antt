@@ -2,6 +2,7 @@
 -- Assumes nothing.
 use mathlib.Core.Path.{sym, _∙_}
 use Prim.Native.Nat.{_-_}
+use native.Mathlib.Omega.{arith}
 use borrow.Author.Needs.{needs}
 use Rattle.rules.specs.Lists.{any}
 use Rattle.rules.specs.Names.{beyondAscii}
@@ -23,10 +24,10 @@ loop-holds : tie.Need-loop-holds Inv-loop μ-loop
 loop-holds c = begun (known (c .before .shared-slice-known .given)) (c .before .before .pre) (c .nodes .ensures)
 
 beyond-ascii-requires : tie.Need-beyond-ascii-requires Inv-loop μ-loop
-beyond-ascii-requires c κs = has-node (any-look beyondAscii) (c .before .loop .inv) (c .loop-test .taken)
+beyond-ascii-requires c κs = has-node (any-look beyondAscii) (c .before .loop .inv) _ (omega arith)
 
 returns : tie.Need-returns Inv-loop μ-loop
-returns c = stops (any-look beyondAscii) (c .before .before .before .loop .inv) (c .before .before .loop-test .taken) (sym (c .before .beyond-ascii .ensures) ∙ c .if1 .taken)
+returns c = stops (any-look beyondAscii) (c .before .before .before .loop .inv) (omega arith) (sym (c .before .beyond-ascii .ensures) ∙ c .if1 .taken)
 
 add-i : tie.Need-add-i Inv-loop μ-loop
 add-i c = search needs
@@ -35,10 +36,10 @@ loop-less : tie.Need-loop-less Inv-loop μ-loop
 loop-less c = search needs
 
 loop-again : tie.Need-loop-again Inv-loop μ-loop
-loop-again c = passes (any-look beyondAscii) (c .before .before .before .loop .inv) (c .before .before .loop-test .taken) (sym (c .before .beyond-ascii .ensures) ∙ c .if1 .left)
+loop-again c = passes (any-look beyondAscii) (c .before .before .before .loop .inv) (omega arith) (sym (c .before .beyond-ascii .ensures) ∙ c .if1 .left)
 
 returns-2 : tie.Need-returns-2 Inv-loop μ-loop
-returns-2 c = ends (any-look beyondAscii) (c .before .loop .inv) (c .loop-test .left)
+returns-2 c = ends (any-look beyondAscii) (c .before .loop .inv) (omega arith)
 
 pub names-beyond-ascii-spec : {M : Type 1} → statement M
 names-beyond-ascii-spec =
