@@ -16,11 +16,8 @@ use Rattle.wire.specs.Le.{num}
 use Rattle.codec.specs.Ways.{joined}
 use Rattle.codec.specs.Layout.{pieces}
 use Rattle.bundle.specs.Bundle.{isThere, orNil, partsOf, IsBundle, PartAt, Stepped}
+use Rattle.bundle.specs.Laws.{and-of}
 use Rattle.bundle.proofs.Cuts.{lengths, fills, cuts, count, head, sizes, whole, pieces-of, pieces-read}
-
-and-of : (a b : Bool) → (a && b) ≡ true → (a ≡ true) × (b ≡ true)
-and-of true b e = (refl, e)
-and-of false b e = absurd (false≢true e)
 
 same-eqb : (a b x y : ℕ) → (a ≡ b → x ≡ y) → (x ≡ y → a ≡ b) → eqb a b ≡ eqb x y
 same-eqb a b x y f g = go (eqb a b) refl

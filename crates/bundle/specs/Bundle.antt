@@ -1,11 +1,12 @@
 -- A bundle (docs/IMAGES.md, "What all four share"): how many parts, the length of each, the parts. Counts have w bytes.
 -- Assumes nothing: these are definitions.
 use mathlib.Core.Path.{_≡_}
-use mathlib.Core.Bool.{Bool, true, false}
+use mathlib.Core.Bool.{Bool, true, false, _&&_}
 use mathlib.Core.Option.{Option, none, some}
 use mathlib.Core.List.{List, [], _∷_}
 use Prim.Native.Nat.{ℕ, _+_, _-_, _≤_}
 use lib.ListN.{length, take, drop, getD}
+use lib.Dec.{eqb}
 use Rattle.codec.specs.Ways.{joined}
 use Rattle.codec.specs.Layout.{pieces}
 
@@ -24,6 +25,14 @@ partsOf w s = orNil (pieces w .read s)
 
 pub record IsBundle (w : ℕ) (s : List ℕ) : Type 0 where
   pub there : isThere (pieces w .read s) ≡ true
+
+-- a bundle of n parts: what a record of n parts is
+unfoldable pub isRecord : ℕ → ℕ → List ℕ → Bool
+isRecord w n s = isThere (pieces w .read s) && eqb (length (partsOf w s)) n
+
+pub record IsRecord (w n : ℕ) (s : List ℕ) : Type 0 where
+  pub bundle : IsBundle w s
+  pub count : length (partsOf w s) ≡ n
 
 -- part i begins at byte `at`. Behind the last part, i is the number of parts and `at` the number of bytes.
 pub record PartAt (w : ℕ) (s : List ℕ) (i at : ℕ) : Type 0 where

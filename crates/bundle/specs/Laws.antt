@@ -1,7 +1,7 @@
 -- What a reader of bundles cites: whether bytes read, as a test for each thing that the code looks at, and what was read, as an equation for each part.
 -- Assumes nothing.
 use mathlib.Core.Path.{_≡_, refl, sym, ap, ap₂, _∙_, subst}
-use mathlib.Core.Bool.{Bool, true, false, cond, _&&_, and-true}
+use mathlib.Core.Bool.{Bool, true, false, not, _&&_, and-true, and-assoc, false≢true}
 use mathlib.Core.Option.{Option, none, some, Option·none-ne-some, Option·some-injective}
 use mathlib.Core.List.{List, [], _∷_}
 use Prim.Native.Nat.{ℕ, zero, suc, _+_, _-_, _≤_, _<_}
@@ -11,12 +11,12 @@ use native.Mathlib.Omega.{arith}
 use lib.ListN.{length, take, drop, getD, length-drop, drop-of-length-le}
 use lib.Seq.{drop-cons, take-nil}
 use lib.Dec.{leb, ltb, eqb, eqb·zero-suc, eqb·suc-zero, eqb·suc-suc}
-use borrow.Author.Tests.{ltb-true, ltb-false, eqb-true}
+use borrow.Author.Tests.{ltb-true, ltb-false, eqb-true, not-true, not-false}
 use Rattle.codec.specs.Format.{Format, Parts}
 use Rattle.codec.specs.Ways.{next, joined, eachJoin, endJoin, andJoin}
 use Rattle.codec.specs.Laws.{next-some}
 use Rattle.codec.specs.Layout.{pieces, bundle, listOf, each, end, _and_}
-use Rattle.bundle.specs.Bundle.{isThere, orNil, partsOf, IsBundle, PartAt, Stepped}
+use Rattle.bundle.specs.Bundle.{isThere, orNil, partsOf, IsBundle, isRecord, IsRecord, PartAt, Stepped}
 
 -- ---- what was read
 
@@ -32,14 +32,48 @@ pub there-next : {A B : Type 0} (o : Option A) (f : A → B) → isThere (next o
 there-next none f = refl
 there-next (some a) f = refl
 
-pub and-left : (a b : Bool) → (a && b) ≡ true → a ≡ true
-and-left true b e = refl
-and-left false b e = e
+pub and-of : (a b : Bool) → (a && b) ≡ true → (a ≡ true) × (b ≡ true)
+and-of true b e = (refl, e)
+and-of false b e = absurd (false≢true e)
 
 pub drop-take : (m n : ℕ) (s : List ℕ) → drop m (take (m + n) s) ≡ take n (drop m s)
 drop-take zero n s = rw (zero-add n)
 drop-take (suc m) n [] = rw (suc-add m n, take-nil n)
 drop-take (suc m) n (x ∷ s) = rw (suc-add m n) (drop-take m n s)
+
+-- ---- a decision: tests one behind the other, as the code makes them
+
+-- all of them
+abbrev pub both-of : List Bool → Bool
+both-of [] = true
+both-of (t ∷ []) = t
+both-of (t ∷ u ∷ ts) = t && both-of (u ∷ ts)
+
+both-cons : (t : Bool) (ts : List Bool) → both-of (t ∷ ts) ≡ (t && both-of ts)
+both-cons t [] = sym (and-true t)
+both-cons t (u ∷ ts) = refl
+
+-- X is decided by the tests ts. A record, so that the tests of one that is at hand are found by their places.
+pub record Decides (X : Bool) (ts : List Bool) : Type 0 where
+  pub is : X ≡ both-of ts
+
+-- a test that failed decides; one that passed leaves the others; the last one is the answer
+pub stop : {X t : Bool} {ts : List Bool} → Decides X (t ∷ ts) → t ≡ false → false ≡ X
+stop {t = t} {ts = []} d e = sym (d .is ∙ e)
+stop {t = t} {ts = u ∷ ts} d e = sym (d .is ∙ ap (λ (b : Bool). b && both-of (u ∷ ts)) e)
+
+pub on : {X t u : Bool} {ts : List Bool} → Decides X (t ∷ u ∷ ts) → t ≡ true → Decides X (u ∷ ts)
+on {u = u} {ts = ts} d e = record { is = d .is ∙ ap (λ (b : Bool). b && both-of (u ∷ ts)) e }
+
+pub last : {X t r : Bool} → Decides X (t ∷ []) → r ≡ t → r ≡ X
+last d e = e ∙ sym (d .is)
+
+-- what `if !test { return false; }` tells of a test of which the callee said what it is
+pub failed : {r t : Bool} → r ≡ t → not r ≡ true → t ≡ false
+failed {r} e h = sym e ∙ not-true r h
+
+pub passed : {r t : Bool} → r ≡ t → not r ≡ false → t ≡ true
+passed {r} e h = sym e ∙ not-false r h
 
 -- t of each element
 abbrev pub all : {A : Type 0} → (A → Bool) → List A → Bool
@@ -101,14 +135,14 @@ module _ (w : ℕ) (t : List ℕ → Bool) (s : List ℕ) where
     within : i < length (partsOf w s)
     within = omega (arith, d .next .few)
 
-    on : from w t s i ≡ (t (take (e - at) (drop at s)) && from w t s (i + 1))
-    on = from-turn i within ∙ ap (λ (p : List ℕ). t p && from w t s (i + 1)) (sym (d .is))
+    turn : from w t s i ≡ (t (take (e - at) (drop at s)) && from w t s (i + 1))
+    turn = from-turn i within ∙ ap (λ (p : List ℕ). t p && from w t s (i + 1)) (sym (d .is))
 
     pub hit : t (take (e - at) (drop at s)) ≡ false → from w t s i ≡ false
-    hit f = on ∙ ap (λ (b : Bool). b && from w t s (i + 1)) f
+    hit f = turn ∙ ap (λ (b : Bool). b && from w t s (i + 1)) f
 
     pub pass : t (take (e - at) (drop at s)) ≡ true → from w t s i ≡ from w t s (i + 1)
-    pass f = on ∙ ap (λ (b : Bool). b && from w t s (i + 1)) f
+    pass f = turn ∙ ap (λ (b : Bool). b && from w t s (i + 1)) f
 
   pub over : (i : ℕ) → length (partsOf w s) ≤ i → from w t s i ≡ true
   unfolding from
@@ -165,22 +199,17 @@ list-at {f = f} {i = i} r k d = ap (f .read) (k .is) ∙ r .value i d (omega (ar
 -- ---- records
 
 -- the tests of the parts from number i on, one for each part
-abbrev pub passes : ℕ → List (List ℕ → Bool) → List (List ℕ) → Bool
-passes i [] l = true
-passes i (t ∷ []) l = t (getD l i [])
-passes i (t ∷ u ∷ ts) l = t (getD l i []) && passes (suc i) (u ∷ ts) l
+abbrev pub tried : ℕ → List (List ℕ → Bool) → List (List ℕ) → List Bool
+tried i [] l = []
+tried i (t ∷ ts) l = t (getD l i []) ∷ tried (suc i) ts l
 
-passes-on : (i : ℕ) (t : List ℕ → Bool) (ts : List (List ℕ → Bool)) (l : List (List ℕ)) → passes i (t ∷ ts) l ≡ (t (getD l i []) && passes (suc i) ts l)
-passes-on i t [] l = sym (and-true (t (getD l i [])))
-passes-on i t (u ∷ ts) l = refl
-
--- the parts of a record by their numbers: `part f (part g done)` for `f and g and end`
+-- the parts of a record by their numbers: `part f (part g done)` for `f and g and end`; `part-as f t same` where the code tests part f by t
 pub record Places {A : Type 0} (p : Parts A) : Type 1 where
   -- a test for each part
   pub tests : List (List ℕ → Bool)
   -- what the parts from number i on say of a value: an equation for each part
   pub Are : ℕ → List (List ℕ) → A → Type 0
-  pub is : (l : List (List ℕ)) (i : ℕ) → isThere (p .join (drop i l)) ≡ (eqb (length (drop i l)) (length tests) && passes i tests l)
+  pub is : (l : List (List ℕ)) (i : ℕ) → isThere (p .join (drop i l)) ≡ (eqb (length (drop i l)) (length tests) && both-of (tried i tests l))
   pub value : (l : List (List ℕ)) (i : ℕ) (v : A) → p .join (drop i l) ≡ some v → Are i l v
   pub make : (l : List (List ℕ)) (i : ℕ) (v : A) → length (drop i l) ≡ length tests → Are i l v → p .join (drop i l) ≡ some v
 
@@ -201,19 +230,18 @@ done = record {
   make = λ l i v h a. done-make (drop i l) v h;
 }
 
-module _ {A B : Type 0} (f : Format A) {p : Parts B} (q : Places p) where
-  and-swap : (t u v : Bool) → (t && (u && v)) ≡ (u && (t && v))
-  and-swap true u v = refl
-  and-swap false true v = refl
-  and-swap false false v = refl
+module _ {A B : Type 0} (f : Format A) (t : List ℕ → Bool) (same : (x : List ℕ) → isThere (f .read x) ≡ t x) {p : Parts B} (q : Places p) where
+  and-swap : (a b c : Bool) → (a && (b && c)) ≡ (b && (a && c))
+  and-swap true b c = refl
+  and-swap false true c = refl
+  and-swap false false c = refl
 
   there-and : (o : Option A) (r : Option B) → isThere {A = A × B} (next o (λ a. next r (λ b. some (a, b)))) ≡ (isThere o && isThere r)
   there-and none r = refl
   there-and (some a) none = refl
   there-and (some a) (some b) = refl
 
-  pub part-is : (l : List (List ℕ)) (i : ℕ)
-      → isThere ((f and p) .join (drop i l)) ≡ (eqb (length (drop i l)) (suc (length (q .tests))) && passes i ((λ x. isThere (f .read x)) ∷ q .tests) l)
+  pub part-is : (l : List (List ℕ)) (i : ℕ) → isThere ((f and p) .join (drop i l)) ≡ (eqb (length (drop i l)) (suc (length (q .tests))) && both-of (tried i (t ∷ q .tests) l))
   part-is l i = go (ltb i (length l)) refl
     where
       n : ℕ
@@ -222,19 +250,18 @@ module _ {A B : Type 0} (f : Format A) {p : Parts B} (q : Places p) where
       x : List ℕ
       x = getD l i []
 
-      go : (t : Bool) → ltb i (length l) ≡ t
-          → isThere (andJoin f p (drop i l)) ≡ (eqb (length (drop i l)) (suc n) && passes i ((λ x. isThere (f .read x)) ∷ q .tests) l)
+      go : (b : Bool) → ltb i (length l) ≡ b → isThere (andJoin f p (drop i l)) ≡ (eqb (length (drop i l)) (suc n) && both-of (tried i (t ∷ q .tests) l))
       go true e =
-          rw (passes-on i (λ x. isThere (f .read x)) (q .tests) l, drop-cons l i [] (ltb-true i (length l) e), eqb·suc-suc (length (drop (suc i) l)) n)
-          (there-and (f .read x) (p .join (drop (suc i) l)) ∙ ap (λ (b : Bool). isThere (f .read x) && b) (q .is l (suc i))
-          ∙ and-swap (isThere (f .read x)) (eqb (length (drop (suc i) l)) n) (passes (suc i) (q .tests) l))
+          rw (both-cons (t x) (tried (suc i) (q .tests) l), drop-cons l i [] (ltb-true i (length l) e), eqb·suc-suc (length (drop (suc i) l)) n)
+          (there-and (f .read x) (p .join (drop (suc i) l)) ∙ ap₂ (λ (a b : Bool). a && b) (same x) (q .is l (suc i))
+          ∙ and-swap (t x) (eqb (length (drop (suc i) l)) n) (both-of (tried (suc i) (q .tests) l)))
       go false e = rw (drop-of-length-le l {i = i} (ltb-false i (length l) e), eqb·zero-suc n)
 
   pub part-value : (l : List (List ℕ)) (i : ℕ) (v : A × B) → (f and p) .join (drop i l) ≡ some v
       → (f .read (getD l i []) ≡ some (v .0)) × q .Are (suc i) l (v .1)
   part-value l i v e = go (ltb i (length l)) refl
     where
-      go : (t : Bool) → ltb i (length l) ≡ t → (f .read (getD l i []) ≡ some (v .0)) × q .Are (suc i) l (v .1)
+      go : (b : Bool) → ltb i (length l) ≡ b → (f .read (getD l i []) ≡ some (v .0)) × q .Are (suc i) l (v .1)
       go true h =
           let k : andJoin f p (getD l i [] ∷ drop (suc i) l) ≡ some v = rw (drop-cons l i [] (ltb-true i (length l) h)) at e in
           next-some (f .read (getD l i [])) (λ a. next (p .join (drop (suc i) l)) (λ b. some (a, b))) k
@@ -250,26 +277,59 @@ module _ {A B : Type 0} (f : Format A) {p : Parts B} (q : Places p) where
       let d : drop i l ≡ getD l i [] ∷ drop (suc i) l = drop-cons l i [] k in
       rw (d, a .0, q .make l (suc i) (v .1) (omega (arith, ap length d)) (a .1))
 
-  abbrev pub part : Places (f and p)
-  part = record {
-    tests = (λ x. isThere (f .read x)) ∷ q .tests;
+  abbrev pub part-as : Places (f and p)
+  part-as = record {
+    tests = t ∷ q .tests;
     Are = λ i l v. (f .read (getD l i []) ≡ some (v .0)) × q .Are (suc i) l (v .1);
     is = part-is;
     value = part-value;
     make = part-make;
   }
 
+abbrev pub part : {A B : Type 0} (f : Format A) {p : Parts B} → Places p → Places (f and p)
+part f q = part-as f (λ x. isThere (f .read x)) (λ x. refl) q
+
+pub shape-decided : (w n : ℕ) (s : List ℕ) → Decides (isRecord w n s) (isThere (pieces w .read s) ∷ eqb (length (partsOf w s)) n ∷ [])
+unfolding isRecord
+shape-decided w n s = record { is = refl }
+
+pub is-record : {w n : ℕ} {s : List ℕ} → isRecord w n s ≡ true → IsRecord w n s
+unfolding isRecord
+is-record {w} {n} {s} e =
+    let p = and-of (isThere (pieces w .read s)) (eqb (length (partsOf w s)) n) e in
+    record { bundle = record { there = p .0 }; count = eqb-true (length (partsOf w s)) n (p .1) }
+
 module _ {A : Type 0} (w : ℕ) {p : Parts A} (q : Places p) (s : List ℕ) where
-  pub record-is : isThere (bundle w p .read s) ≡ (isThere (pieces w .read s) && (eqb (length (partsOf w s)) (length (q .tests)) && passes 0 (q .tests) (partsOf w s)))
-  record-is = bundle-is w p s ∙ ap (λ (b : Bool). isThere (pieces w .read s) && b) (q .is (partsOf w s) 0)
+  pub record-is : isThere (bundle w p .read s) ≡ (isRecord w (length (q .tests)) s && both-of (tried 0 (q .tests) (partsOf w s)))
+  unfolding isRecord
+  record-is =
+      bundle-is w p s ∙ ap (λ (b : Bool). isThere (pieces w .read s) && b) (q .is (partsOf w s) 0)
+      ∙ sym (and-assoc (isThere (pieces w .read s)) (eqb (length (partsOf w s)) (length (q .tests))) (both-of (tried 0 (q .tests) (partsOf w s))))
 
-  pub record-count : {v : A} → bundle w p .read s ≡ some v → length (partsOf w s) ≡ length (q .tests)
-  record-count e =
-      eqb-true (length (partsOf w s)) (length (q .tests)) (and-left (eqb (length (partsOf w s)) (length (q .tests))) (passes 0 (q .tests) (partsOf w s))
-      (sym (q .is (partsOf w s) 0) ∙ there-some (bundle-value w p s e)))
+  -- is it a record, and each part in turn
+  abbrev pub recordTests : List Bool
+  recordTests = isRecord w (length (q .tests)) s ∷ tried 0 (q .tests) (partsOf w s)
 
+  pub record-decided : Decides (isThere (bundle w p .read s)) recordTests
+  record-decided = record { is = record-is ∙ sym (both-cons (isRecord w (length (q .tests)) s) (tried 0 (q .tests) (partsOf w s))) }
+
+  pub record-there : {v : A} → bundle w p .read s ≡ some v → IsRecord w (length (q .tests)) s
+  record-there e = is-record (and-of (isRecord w (length (q .tests)) s) (both-of (tried 0 (q .tests) (partsOf w s))) (sym record-is ∙ there-some e) .0)
+
+  -- an equation for each part
   pub record-values : {v : A} → bundle w p .read s ≡ some v → q .Are 0 (partsOf w s) v
   record-values {v} e = q .value (partsOf w s) 0 v (bundle-value w p s e)
 
-  pub record-make : (v : A) → IsBundle w s → length (partsOf w s) ≡ length (q .tests) → q .Are 0 (partsOf w s) v → bundle w p .read s ≡ some v
-  record-make v b n a = bundle-read w p s b ∙ q .make (partsOf w s) 0 v n a
+  pub record-make : (v : A) → IsRecord w (length (q .tests)) s → q .Are 0 (partsOf w s) v → bundle w p .read s ≡ some v
+  record-make v r a = bundle-read w p s (r .bundle) ∙ q .make (partsOf w s) 0 v (r .count) a
+
+  -- the same where a record's parts make a value: `via (recordOf w p) f ..` is read so
+  module _ {B : Type 0} (f : A → B) where
+    pub via-record-decided : Decides (isThere (next (bundle w p .read s) (λ a. some (f a)))) recordTests
+    via-record-decided = record { is = there-next (bundle w p .read s) f ∙ record-decided .is }
+
+    pub via-record-there : {b : B} → next (bundle w p .read s) (λ a. some (f a)) ≡ some b → IsRecord w (length (q .tests)) s
+    via-record-there e = next-some (bundle w p .read s) (λ a. some (f a)) e (λ a h k. record-there h)
+
+    pub via-record-value : {b : B} → next (bundle w p .read s) (λ a. some (f a)) ≡ some b → (a : A) × (q .Are 0 (partsOf w s) a) × (f a ≡ b)
+    via-record-value {b} e = next-some (bundle w p .read s) (λ a. some (f a)) e (λ a h k. (a, record-values h, Option·some-injective (f a) b k))

@@ -5,7 +5,7 @@ ghost use mathlib.Core.List.{[]};
 ghost use Prim.Native.Nat.{_≤_, _<_};
 ghost use lib.ListN.{length, getD};
 ghost use Rattle.codec.specs.Layout.{pieces};
-ghost use Rattle.bundle.specs.Bundle.{isThere, partsOf, IsBundle, PartAt, Stepped};
+ghost use Rattle.bundle.specs.Bundle.{isThere, partsOf, IsBundle, isRecord, PartAt, Stepped};
 
 // Whether the lengths in the contents add up to the bytes behind them.
 pub fn is_bundle(s: &[u8], w: usize) -> bool
@@ -42,6 +42,17 @@ pub fn parts(s: &[u8], w: usize) -> usize
     ensures { λ r. ⌜ r ≡ length (partsOf w (now (s .entry))) ⌝ }
 {
     wire::get(s, 0, w) as usize
+}
+
+// Whether the bytes are a bundle of n parts, as a record of n parts is.
+pub fn is_record(s: &[u8], w: usize, n: usize) -> bool
+    requires { ⌜ w ≤ 4 ⌝ }
+    ensures { λ r. ⌜ r ≡ isRecord w n (now (s .entry)) ⌝ }
+{
+    if !is_bundle(s, w) {
+        return false;
+    }
+    parts(s, w) == n
 }
 
 // Where the first part begins: behind the contents.
