@@ -1,3 +1,5 @@
 pub mod Bundle
 pub mod Laws
 pub mod Fields
+pub mod Walks
+pub mod Heads
