@@ -1,1 +1,4 @@
-// The statement's image. `specs/Layout.antt` has its layout and the two round trips; there is no code here yet.
+// The statement's image: whether bytes are one, and its parts. `specs/Layout.antt` has the layout and the two round trips.
+// Each `is_..` tests the bytes of one format. Counts have 2 bytes.
+mod heads;
+mod names;
