@@ -1,8 +1,7 @@
--- What stands in front: a mark and something behind it, a code and its case, marks alone. A record for each shape, so that what the code tests one byte
--- after the other answers it.
+-- What the tests of a function tell, shape by shape: a record's parts; a mark and something behind it, a code and its case, marks alone.
 -- Assumes nothing.
 use mathlib.Core.Path.{_≡_, refl, sym, ap, ap₂, _∙_}
-use mathlib.Core.Bool.{Bool, true, false, _&&_, and-true, and-false}
+use mathlib.Core.Bool.{Bool, true, false, _&&_, and-true, and-false, false≢true}
 use mathlib.Core.Option.{Option, some}
 use mathlib.Core.List.{List, [], _∷_}
 use Prim.Native.Nat.{ℕ, zero, suc, _+_, _≤_, _<_}
@@ -18,8 +17,31 @@ use Rattle.codec.specs.Laws.{next-some}
 use Rattle.codec.specs.Layout.{nothing, bools, mark, headed, both}
 use Rattle.codec.specs.Sums.{Case, Some, made, spread, sum, choice}
 use Rattle.bundle.specs.Bundle.{isThere}
-use Rattle.bundle.specs.Laws.{there-next, all}
+use Rattle.bundle.specs.Laws.{there-next, all, both-of, Decides}
 use Rattle.bundle.specs.Fields.{Spot, codeSpot, bothSpot, field-is, headed-is, choice-is, sum-is, caseIs, nothing-is}
+
+-- ---- a record
+
+-- a test that failed decides, whichever it is
+pub fails : {X : Bool} {ts : List Bool} → Decides X ts → (k : ℕ) → getD ts k true ≡ false → false ≡ X
+fails {ts = ts} d k e = sym (d .is ∙ go ts k e)
+  where
+    go : (ts : List Bool) (k : ℕ) → getD ts k true ≡ false → both-of ts ≡ false
+    go [] k e = e
+    go (t ∷ []) zero e = e
+    go (t ∷ []) (suc k) e = absurd (false≢true (sym e))
+    go (t ∷ u ∷ ts) zero e = ap (λ (b : Bool). b && both-of (u ∷ ts)) e
+    go (t ∷ u ∷ ts) (suc k) e = ap (λ (b : Bool). t && b) (go (u ∷ ts) k e) ∙ and-false t
+
+-- whether a part is an f
+abbrev pub isA : {A : Type 0} → Format A → List ℕ → Bool
+isA f p = isThere (f .read p)
+
+-- what a test told of bytes holds of the part that they are
+pub told : (t : List ℕ → Bool) {r : Bool} {p q : List ℕ} → r ≡ t p → p ≡ q → r ≡ t q
+told t e h = e ∙ ap t h
+
+-- ---- what stands in front
 
 abbrev pub markSpot : Spot mark
 markSpot = codeSpot bools

@@ -29,7 +29,9 @@ first-requires : tie.Need-first-requires Inv-loop μ-loop
 first-requires c κs = (search needs, record { there = passed (c .before .before .is-bundle .ensures) (c .before .if1 .left) })
 
 loop-holds : tie.Need-loop-holds Inv-loop μ-loop
-loop-holds c = start name (record { there = passed (c .before .before .before .is-bundle .ensures) (c .before .before .if1 .left) }) (c .before .parts .ensures) (c .first .ensures)
+loop-holds c =
+    start name (record { there = passed (c .before .before .before .is-bundle .ensures) (c .before .before .if1 .left) })
+    (c .before .parts .ensures) (c .first .ensures)
 
 next-requires : tie.Need-next-requires Inv-loop μ-loop
 next-requires c κs = let k = c .before .loop .inv in (search needs, k .bundle, k .here, ahead k (c .loop-test .taken))
@@ -47,7 +49,8 @@ is-name-requires : tie.Need-is-name-requires Inv-loop μ-loop
 is-name-requires c κs = search needs
 
 returns-2 : tie.Need-returns-2 Inv-loop μ-loop
-returns-2 c = let b = c .before .before .before in walk-stop (b .before .before .loop .inv) (b .next .ensures) (c .before .is-name .ensures) (c .if2 .taken)
+returns-2 c =
+    let b = c .before .before .before in walk-stop (b .before .before .loop .inv) (b .next .ensures) (c .before .is-name .ensures) (c .if2 .taken)
 
 add-i : tie.Need-add-i Inv-loop μ-loop
 add-i c = search needs
@@ -56,7 +59,8 @@ loop-less : tie.Need-loop-less Inv-loop μ-loop
 loop-less c = search needs
 
 loop-again : tie.Need-loop-again Inv-loop μ-loop
-loop-again c = let b = c .before .before .before in walk-on (b .before .before .loop .inv) (b .next .ensures) (c .before .is-name .ensures) (c .if2 .left)
+loop-again c =
+    let b = c .before .before .before in walk-on (b .before .before .loop .inv) (b .next .ensures) (c .before .is-name .ensures) (c .if2 .left)
 
 returns-3 : tie.Need-returns-3 Inv-loop μ-loop
 returns-3 c = walk-end (c .before .loop .inv) (c .loop-test .left)
