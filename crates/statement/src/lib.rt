@@ -2,4 +2,5 @@
 // Each `is_..` tests the bytes of one format. Counts have 2 bytes.
 pub mod create;
 mod heads;
+pub mod insert;
 mod names;
