@@ -1,2 +1,4 @@
 pub mod Layout
 pub mod Shapes
+pub mod CreateShapes
+pub mod InsertShapes

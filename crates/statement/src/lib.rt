@@ -1,8 +1,10 @@
 // The statement's image: whether bytes are one, and its parts. `specs/Layout.antt` has the layout and the two round trips.
 // Each `is_..` tests the bytes of one format. Counts have 2 bytes.
-mod delete;
+pub mod create;
+pub mod delete;
 mod heads;
-mod names;
-mod select;
-mod table;
-mod update;
+pub mod insert;
+pub mod names;
+pub mod select;
+pub mod table;
+pub mod update;
