@@ -52,6 +52,11 @@ use Rattle.statement.specs.Layout.{
   delete-from-made,
   deleteFrom,
   deletion,
+  kindCases,
+  whichKind,
+  kind-made,
+  kind,
+  statement,
 }
 
 -- ---- names
@@ -150,3 +155,16 @@ deleteParts =
 pub delete-decided : (s : List ℕ) → Decides (isThere (deletion .read s)) (recordTests 2 deleteParts s)
 unfolding deletion
 delete-decided s = via-record-decided 2 deleteParts s _
+
+-- ---- the statement
+
+pub kind-chosen : (s : List ℕ) → Chosen (isThere (kind .read s)) s kindCases
+unfolding kind
+kind-chosen s = sum-chosen kindCases whichKind kind-made refl refl s
+
+abbrev pub statementParts : Places (text and kind and end)
+statementParts = part-as text isUtf8 text-is (part kind done)
+
+pub statement-decided : (s : List ℕ) → Decides (isThere (statement .read s)) (recordTests 2 statementParts s)
+unfolding statement
+statement-decided s = via-record-decided 2 statementParts s _
