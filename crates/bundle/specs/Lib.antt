@@ -3,3 +3,4 @@ pub mod Laws
 pub mod Fields
 pub mod Walks
 pub mod Heads
+pub mod Values

@@ -4,12 +4,18 @@ use crate::heads::behind;
 use crate::names::are_names;
 use crate::names::is_object_name;
 ghost use mathlib.Core.Path.{_≡_};
+ghost use mathlib.Core.Bool.{Bool};
+ghost use mathlib.Core.Option.{some};
+ghost use mathlib.Core.List.{List};
 ghost use Rattle.codec.specs.Ways.{optionalRead};
 ghost use Rattle.codec.specs.Layout.{listOf};
 ghost use Rattle.bundle.specs.Bundle.{isThere};
 ghost use Rattle.expression.specs.Expression.{expression};
-ghost use Rattle.statement.specs.Layout.{sourceBody, source, insertion};
+ghost use Rattle.rules.specs.Statements.{Expr, SourceBody, values, Source, Insert};
+ghost use Rattle.statement.specs.Layout.{name, objectName, sourceBody, source, insertion};
 ghost use Rattle.statement.specs.InsertShapes.{valuesForm};
+ghost use Rattle.statement.specs.Held.{Is, Holds, Shows};
+ghost use Rattle.statement.specs.InsertHeld.{isValues};
 
 // One row.
 pub fn are_expressions(s: &[u8]) -> bool
@@ -119,4 +125,81 @@ pub fn is_insert(s: &[u8]) -> bool
         return false;
     }
     is_maybe_source(bundle::part(s, 2, 3))
+}
+
+// ---- what an INSERT holds
+
+pub fn is_modified(i: &[u8]) -> bool
+    requires { ⌜ Is insertion (now i) ⌝ }
+    ensures { λ r. ⌜ ((v : Insert) → Holds insertion (now (i .entry)) v → r ≡ v .modified) ⌝ }
+{
+    let m = bundle::part(i, 2, 0);
+    m[0] == 1
+}
+
+pub fn table_name(i: &[u8]) -> &[u8]
+    requires { ⌜ Is insertion (now i) ⌝ }
+    ensures { λ r. ⌜ ((v : Insert) → Holds insertion (now (i .entry)) v → Holds objectName (now r) (v .name)) ⌝ }
+{
+    bundle::part(i, 2, 1)
+}
+
+pub fn columns(i: &[u8]) -> &[u8]
+    requires { ⌜ Is insertion (now i) ⌝ }
+    ensures { λ r. ⌜ ((v : Insert) → Holds insertion (now (i .entry)) v → Holds (listOf 2 name) (now r) (v .columns)) ⌝ }
+{
+    bundle::part(i, 2, 2)
+}
+
+pub fn has_source(i: &[u8]) -> bool
+    requires { ⌜ Is insertion (now i) ⌝ }
+    ensures { λ r. ⌜ ((v : Insert) → Holds insertion (now (i .entry)) v → r ≡ isThere (v .source)) ⌝ }
+{
+    let s = bundle::part(i, 2, 3);
+    s.len() != 0
+}
+
+// Where there is a source; no byte otherwise.
+pub fn source_of(i: &[u8]) -> &[u8]
+    requires { ⌜ Is insertion (now i) ⌝ }
+    ensures { λ r. ⌜ ((v : Insert) (q : Source) → Holds insertion (now (i .entry)) v → v .source ≡ some q → Holds source (now r) q) ⌝ }
+{
+    bundle::part(i, 2, 3)
+}
+
+// ---- a source
+
+pub fn has_clauses(s: &[u8]) -> bool
+    requires { ⌜ Is source (now s) ⌝ }
+    ensures { λ r. ⌜ ((v : Source) → Holds source (now (s .entry)) v → r ≡ v .clauses) ⌝ }
+{
+    s[0] == 1
+}
+
+pub fn body_of(s: &[u8]) -> &[u8]
+    requires { ⌜ Is source (now s) ⌝ }
+    ensures { λ r. ⌜ ((v : Source) → Holds source (now (s .entry)) v → Holds sourceBody (now r) (v .body)) ⌝ }
+{
+    behind(s)
+}
+
+pub fn is_values(b: &[u8]) -> bool
+    requires { ⌜ Is sourceBody (now b) ⌝ }
+    ensures { λ r. ⌜ ((v : SourceBody) → Holds sourceBody (now (b .entry)) v → r ≡ isValues v) ⌝ }
+{
+    b[0] == 1
+}
+
+pub fn explicit_row(b: &[u8]) -> bool
+    requires { ⌜ Shows sourceBody isValues (now b) ⌝ }
+    ensures { λ r. ⌜ ((m : Bool) (rows : List (List Expr)) → Holds sourceBody (now (b .entry)) (values m rows) → r ≡ m) ⌝ }
+{
+    b[1] == 1
+}
+
+pub fn rows_of(b: &[u8]) -> &[u8]
+    requires { ⌜ Shows sourceBody isValues (now b) ⌝ }
+    ensures { λ r. ⌜ ((m : Bool) (rows : List (List Expr)) → Holds sourceBody (now (b .entry)) (values m rows) → Holds (listOf 2 (listOf 2 expression)) (now r) rows) ⌝ }
+{
+    &b[2..]
 }
