@@ -4,3 +4,4 @@ pub mod Fields
 pub mod Walks
 pub mod Heads
 pub mod Values
+pub mod Cases
