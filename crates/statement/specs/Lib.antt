@@ -1,1 +1,7 @@
 pub mod Layout
+pub mod Shapes
+pub mod CreateShapes
+pub mod InsertShapes
+pub mod Held
+pub mod CreateHeld
+pub mod InsertHeld
