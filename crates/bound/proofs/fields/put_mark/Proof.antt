@@ -3,7 +3,7 @@
 use mathlib.Core.Path.{ap}
 use mathlib.Core.List.{List, [], _∷_}
 use Prim.Native.Nat.{ℕ}
-use Rattle.bound.specs.Spelt.{spelt}
+use Rattle.bound.specs.Written.{spelt}
 use borrow.Author.Needs.{needs}
 use Rattle.bound.proofs.fields.put_mark.Statement.{statement}
 use Rattle.bound.proofs.fields.put_mark.Tie as tie

@@ -8,7 +8,8 @@ use mir.Val.{ofZ}
 use mir.Facts.{toZ-ofZ}
 use Rattle.wire.specs.Le.{le}
 use Rattle.wire.specs.Sets.{then}
-use Rattle.bound.specs.Spelt.{spelt, int-spelt}
+use Rattle.bound.specs.Written.{spelt}
+use Rattle.bound.specs.Spelt.{int-spelt}
 use borrow.Author.Needs.{needs}
 use Rattle.bound.proofs.values.put_int.Statement.{statement}
 use Rattle.bound.proofs.values.put_int.Tie as tie
