@@ -82,6 +82,14 @@ head2 m n = le 4 2 ++ (le 4 m ++ le 4 n)
 unfoldable pub head3 : ℕ → ℕ → ℕ → List ℕ
 head3 m n k = le 4 3 ++ (le 4 m ++ (le 4 n ++ le 4 k))
 
+pub head2-length : (m n : ℕ) → length (head2 m n) ≡ 12
+unfolding head2
+head2-length m n = refl
+
+pub head3-length : (m n k : ℕ) → length (head3 m n k) ≡ 16
+unfolding head3
+head3-length m n k = refl
+
 -- a record whose parts have the bytes a and b, and one of a, b and c
 unfoldable pub record2 : List ℕ → List ℕ → List ℕ
 record2 a b = head2 (length a) (length b) ++ (a ++ b)

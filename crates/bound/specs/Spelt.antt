@@ -20,7 +20,7 @@ use Rattle.rules.specs.declared.ColumnId.{ColumnId}
 use Rattle.rules.specs.Tables.{ColumnSchema}
 use Rattle.rules.specs.Bound.{Value.int, Value.text, Value.bool, Value.null, BoundTableRef, BoundColumnRef}
 use Rattle.bound.specs.Columns.{boundTableRef, boundColumnRef}
-use Rattle.bound.specs.Bundles.{lengths, bodies, lengths-length, list-bytes, list-length, record2, head2, record2-bytes}
+use Rattle.bound.specs.Bundles.{lengths, bodies, lengths-length, list-length, record2, head2, record2-bytes}
 use Rattle.bound.specs.Made.{columnIds}
 
 -- ---- tables and columns
@@ -91,7 +91,7 @@ null-length = refl
 abbrev ids : Format ColumnId
 ids = alone columnId
 
-ids-count : (ns : List ℕ) → length (columnIds ns) ≡ length ns
+pub ids-count : (ns : List ℕ) → length (columnIds ns) ≡ length ns
 ids-count ns = length-map ns (λ n. record { 0 = n })
 
 pub ids-lengths : (ns : List ℕ) → length (lengths ids (columnIds ns)) ≡ 4 * length ns
@@ -104,10 +104,6 @@ ids-bodies (n ∷ ns) = omega (arith, ids-bodies ns)
 
 pub ids-length : (ns : List ℕ) → length (listOf 4 ids .write (columnIds ns)) ≡ 4 + 12 * length ns
 ids-length ns = list-length ids (columnIds ns) ∙ omega (arith, ids-bodies ns, ids-count ns)
-
-pub ids-spelt : (ns : List ℕ) → le 4 (length ns) ++ (lengths ids (columnIds ns) ++ bodies ids (columnIds ns)) ≡ listOf 4 ids .write (columnIds ns)
-ids-spelt ns =
-    ap (λ (n : ℕ). le 4 n ++ (lengths ids (columnIds ns) ++ bodies ids (columnIds ns))) (sym (ids-count ns)) ∙ sym (list-bytes ids (columnIds ns))
 
 -- the next id of a loop
 module _ (ns : List ℕ) (i : ℕ) (h : i < length ns) where

@@ -1,7 +1,7 @@
 -- `bound::values::put_int` meets its contract: two writes, one behind the other; `bits` speaks of the number that the bits of z stand for: z itself.
 -- Assumes nothing.
 use mathlib.Core.Path.{ap, _∙_}
-use mathlib.Core.List.{List, [], _∷_, _++_}
+use mathlib.Core.List.{[], _∷_, _++_}
 use Prim.Native.Nat.{ℕ}
 use mir.Syntax.{w64}
 use mir.Val.{ofZ}
