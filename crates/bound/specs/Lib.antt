@@ -2,7 +2,9 @@ pub mod Columns
 pub mod Expression
 pub mod Layout
 pub mod Made
-pub mod Spelt
 pub mod Nodes
 pub mod Bundles
 pub mod Runs
+pub mod Spelt
+pub mod Statements
+pub mod Written

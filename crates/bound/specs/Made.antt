@@ -1,7 +1,7 @@
 -- The plain values whose bytes the writers put, by the parts that a writer is given.
 -- Assumes nothing: these are definitions.
 use mathlib.Core.Bool.{Bool}
-use mathlib.Core.List.{List}
+use mathlib.Core.List.{List, map}
 use Prim.Native.Nat.{ℕ}
 use Rattle.rules.specs.declared.TableId.{TableId}
 use Rattle.rules.specs.declared.ColumnId.{ColumnId}
@@ -25,3 +25,7 @@ columnRef table id ordinal ty nullable name = record {
 
 abbrev pub columnOf : ColumnId → DataType → Bool → List ℕ → ColumnSchema
 columnOf id ty nullable name = record { id = id; name = name; ty = ty; nullable = nullable }
+
+-- the ids of a key, by their numbers
+abbrev pub columnIds : List ℕ → List ColumnId
+columnIds ns = map (λ n. record { 0 = n }) ns

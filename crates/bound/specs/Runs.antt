@@ -2,16 +2,15 @@
 -- Assumes nothing.
 use mathlib.Core.Path.{_≡_, refl, sym, ap, ap₂, _∙_}
 use mathlib.Core.List.{List, [], _∷_, _++_, map, map-append, append-nil, append-assoc}
-use Prim.Native.Nat.{ℕ, suc, _+_, _-_, _*_}
+use Prim.Native.Nat.{ℕ, _+_, _*_}
 use native.Mathlib.Nat.{add-zero}
 use native.Mathlib.Omega.{arith}
 use lib.ListN.{length, length-append, length-map, take, drop}
-use Rattle.wire.specs.Le.{le, length-le}
-use Rattle.tree.specs.Tree.{Tree, leaf, un, bin, size}
-use Rattle.codec.specs.Format.{Format}
+use Rattle.wire.specs.Le.{le}
+use Rattle.tree.specs.Tree.{leaf, un, bin, size}
 use Rattle.codec.specs.Ways.{joined}
 use Rattle.codec.specs.Nodes as N
-use Rattle.codec.specs.Nodes.{Label, Label.leafLabel, Label.unLabel, Label.binLabel, Labels, nodesOf}
+use Rattle.codec.specs.Nodes.{Label, Label.unLabel, Label.binLabel, Labels, nodesOf}
 use Rattle.codec.specs.NodeLaws.{nodes-length}
 use Rattle.codec.specs.Run.{node, labelsWith}
 use Rattle.value.specs.Parts.{value, operatorCodes}
@@ -20,7 +19,7 @@ use Rattle.rules.specs.declared.BoundBinaryOperator.{BoundBinaryOperator}
 use Rattle.rules.specs.Marking.{operatorNo}
 use Rattle.rules.specs.Bound.{Marked, BoundLeaf, BoundUnary, BoundExpr, markOf}
 use Rattle.bound.specs.Columns.{boundColumnRef}
-use Rattle.bound.specs.Expression.{boundExpression, marks, leafCodes, unaryCodes, unaryNo, Pairs, paired, toPairs}
+use Rattle.bound.specs.Expression.{boundExpression, marks, leafCodes, unaryCodes, unaryNo, paired, toPairs}
 use Rattle.bound.specs.Nodes.{nodeBytes, node-length}
 
 -- ---- the kind of the root

@@ -3,25 +3,25 @@
 use mathlib.Core.Path.{_≡_, refl, sym, ap, _∙_}
 use mathlib.Core.Bool.{Bool}
 use mathlib.Core.List.{List, [], _∷_, _++_}
-use Prim.Native.Nat.{ℕ, _+_}
+use Prim.Native.Nat.{ℕ, _+_, _*_, _<_}
+use native.Mathlib.Numerals.{add-one}
 use native.Mathlib.Omega.{arith}
-use lib.ListN.{length, length-append}
+use lib.ListN.{length, length-map, getD, drop}
+use lib.Seq.{drop-cons}
 use lib.IntN.{ℤ}
 use mir.Syntax.{w64}
 use mir.Val.{ofZ}
 use Rattle.wire.specs.Le.{le}
-use Rattle.wire.specs.Sets.{Wrote}
-use Rattle.codec.specs.Layout.{mark, alone}
+use Rattle.codec.specs.Format.{Format}
+use Rattle.codec.specs.Layout.{mark, alone, listOf}
 use Rattle.codec.specs.Layout as layout
 use Rattle.value.specs.Parts.{columnId, dataType, value, columnNumbers, columnSchema}
+use Rattle.rules.specs.declared.ColumnId.{ColumnId}
 use Rattle.rules.specs.Tables.{ColumnSchema}
 use Rattle.rules.specs.Bound.{Value.int, Value.text, Value.bool, Value.null, BoundTableRef, BoundColumnRef}
 use Rattle.bound.specs.Columns.{boundTableRef, boundColumnRef}
-use Rattle.bound.specs.Bundles.{record2, record2-bytes, record2-length}
-
--- the same write, its bytes said in another way
-pub spelt : {o o′ x y : List ℕ} {i j : ℕ} → x ≡ y → Wrote o i x j o′ → Wrote o i y j o′
-spelt e w = rw e at w
+use Rattle.bound.specs.Bundles.{lengths, bodies, lengths-length, list-length, record2, head2, record2-bytes}
+use Rattle.bound.specs.Made.{columnIds}
 
 -- ---- tables and columns
 
@@ -38,7 +38,7 @@ column-ref-spelt r = refl
 pub column-spelt : (c : ColumnSchema)
     → le 4 2 ++ ((le 4 10 ++ le 4 (length (c .name))) ++ ((columnId .form .write (c .id) ++ (dataType .form .write (c .ty) ++ mark .form .write (c .nullable))) ++ c .name))
     ≡ columnSchema 4 .write c
-unfolding columnSchema record2
+unfolding columnSchema record2 head2
 column-spelt c = sym (record2-bytes (alone columnNumbers) layout.text (c .id, (c .ty, c .nullable)) (c .name))
 
 pub table-ref-length : (t : BoundTableRef) → length (boundTableRef .write t) ≡ 16 + length (t .name)
@@ -85,3 +85,32 @@ bool-length b = refl
 pub null-length : length (value .write null) ≡ 1
 unfolding value
 null-length = refl
+
+-- ---- the ids of a key
+
+abbrev ids : Format ColumnId
+ids = alone columnId
+
+pub ids-count : (ns : List ℕ) → length (columnIds ns) ≡ length ns
+ids-count ns = length-map ns (λ n. record { 0 = n })
+
+pub ids-lengths : (ns : List ℕ) → length (lengths ids (columnIds ns)) ≡ 4 * length ns
+ids-lengths ns = lengths-length ids (columnIds ns) ∙ ap (λ (n : ℕ). 4 * n) (ids-count ns)
+
+pub ids-bodies : (ns : List ℕ) → length (bodies ids (columnIds ns)) ≡ 8 * length ns
+unfolding bodies
+ids-bodies [] = refl
+ids-bodies (n ∷ ns) = omega (arith, ids-bodies ns)
+
+pub ids-length : (ns : List ℕ) → length (listOf 4 ids .write (columnIds ns)) ≡ 4 + 12 * length ns
+ids-length ns = list-length ids (columnIds ns) ∙ omega (arith, ids-bodies ns, ids-count ns)
+
+-- the next id of a loop
+module _ (ns : List ℕ) (i : ℕ) (h : i < length ns) where
+  pub ids-lengths-next : lengths ids (columnIds (drop i ns)) ≡ le 4 8 ++ lengths ids (columnIds (drop (i + 1) ns))
+  unfolding lengths
+  ids-lengths-next = rw (add-one, drop-cons ns i 0 h)
+
+  pub ids-bodies-next : bodies ids (columnIds (drop i ns)) ≡ le 8 (getD ns i 0) ++ bodies ids (columnIds (drop (i + 1) ns))
+  unfolding bodies
+  ids-bodies-next = rw (add-one, drop-cons ns i 0 h)

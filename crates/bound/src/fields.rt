@@ -114,7 +114,7 @@ pub fn put_marks(out: &mut [u8], at: usize, m: Mark) -> usize
     ensures { λ r. ⌜ Wrote (now (out .entry)) at (marks .form .write m) r (now (out .exit)) ⌝ }
 {
     let ty = m.ty;
-    let nullable = m.nullable;
+    let null = m.nullable;
     let a = put_type(out, at, ty);
-    put_mark(out, a, nullable)
+    put_mark(out, a, null)
 }

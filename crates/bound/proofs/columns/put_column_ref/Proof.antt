@@ -1,7 +1,8 @@
 -- `bound::columns::put_column_ref` meets its contract: five writes, one behind the other.
 -- Assumes nothing.
 use Rattle.wire.specs.Sets.{then}
-use Rattle.bound.specs.Spelt.{spelt, column-ref-spelt}
+use Rattle.bound.specs.Written.{spelt}
+use Rattle.bound.specs.Spelt.{column-ref-spelt}
 use borrow.Author.Needs.{needs}
 use Rattle.bound.proofs.columns.put_column_ref.Statement.{statement}
 use Rattle.bound.proofs.columns.put_column_ref.Tie as tie

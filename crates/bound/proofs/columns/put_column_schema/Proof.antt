@@ -1,7 +1,8 @@
 -- `bound::columns::put_column_schema` meets its contract: six writes, one behind the other.
 -- Assumes nothing.
 use Rattle.wire.specs.Sets.{then}
-use Rattle.bound.specs.Spelt.{spelt, column-spelt}
+use Rattle.bound.specs.Written.{spelt}
+use Rattle.bound.specs.Spelt.{column-spelt}
 use borrow.Author.Needs.{needs}
 use Rattle.bound.proofs.columns.put_column_schema.Statement.{statement}
 use Rattle.bound.proofs.columns.put_column_schema.Tie as tie

@@ -1,7 +1,8 @@
 -- `bound::columns::put_table_ref` meets its contract: three writes, one behind the other.
 -- Assumes nothing.
 use Rattle.wire.specs.Sets.{then}
-use Rattle.bound.specs.Spelt.{spelt, table-ref-spelt}
+use Rattle.bound.specs.Written.{spelt}
+use Rattle.bound.specs.Spelt.{table-ref-spelt}
 use borrow.Author.Needs.{needs}
 use Rattle.bound.proofs.columns.put_table_ref.Statement.{statement}
 use Rattle.bound.proofs.columns.put_table_ref.Tie as tie

@@ -1,7 +1,8 @@
 -- `bound::values::put_bool` meets its contract: two writes, one behind the other.
 -- Assumes nothing.
 use Rattle.wire.specs.Sets.{then}
-use Rattle.bound.specs.Spelt.{spelt, bool-spelt}
+use Rattle.bound.specs.Written.{spelt}
+use Rattle.bound.specs.Spelt.{bool-spelt}
 use borrow.Author.Needs.{needs}
 use Rattle.bound.proofs.values.put_bool.Statement.{statement}
 use Rattle.bound.proofs.values.put_bool.Tie as tie

@@ -1,14 +1,15 @@
 -- `bound::values::put_int` meets its contract: two writes, one behind the other; `bits` speaks of the number that the bits of z stand for: z itself.
 -- Assumes nothing.
 use mathlib.Core.Path.{ap, _∙_}
-use mathlib.Core.List.{List, [], _∷_, _++_}
+use mathlib.Core.List.{[], _∷_, _++_}
 use Prim.Native.Nat.{ℕ}
 use mir.Syntax.{w64}
 use mir.Val.{ofZ}
 use mir.Facts.{toZ-ofZ}
 use Rattle.wire.specs.Le.{le}
 use Rattle.wire.specs.Sets.{then}
-use Rattle.bound.specs.Spelt.{spelt, int-spelt}
+use Rattle.bound.specs.Written.{spelt}
+use Rattle.bound.specs.Spelt.{int-spelt}
 use borrow.Author.Needs.{needs}
 use Rattle.bound.proofs.values.put_int.Statement.{statement}
 use Rattle.bound.proofs.values.put_int.Tie as tie

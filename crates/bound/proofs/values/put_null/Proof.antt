@@ -1,6 +1,7 @@
 -- `bound::values::put_null` meets its contract: a NULL is its code.
 -- Assumes nothing.
-use Rattle.bound.specs.Spelt.{spelt, null-spelt}
+use Rattle.bound.specs.Written.{spelt}
+use Rattle.bound.specs.Spelt.{null-spelt}
 use borrow.Author.Needs.{needs}
 use Rattle.bound.proofs.values.put_null.Statement.{statement}
 use Rattle.bound.proofs.values.put_null.Tie as tie

@@ -1,7 +1,8 @@
 -- `bound::values::put_text` meets its contract: two writes, one behind the other.
 -- Assumes nothing.
 use Rattle.wire.specs.Sets.{then}
-use Rattle.bound.specs.Spelt.{spelt, text-spelt}
+use Rattle.bound.specs.Written.{spelt}
+use Rattle.bound.specs.Spelt.{text-spelt}
 use borrow.Author.Needs.{needs}
 use Rattle.bound.proofs.values.put_text.Statement.{statement}
 use Rattle.bound.proofs.values.put_text.Tie as tie

@@ -1,0 +1,20 @@
+-- `bound::bundles::ids_len` meets its contract.
+-- Assumes nothing.
+use native.Mathlib.Omega.{arith}
+use mathlib.Core.Path.{refl}
+use Rattle.bound.specs.Spelt.{ids-length}
+use borrow.Author.Needs.{needs}
+use Rattle.bound.proofs.bundles.ids_len.Statement.{statement}
+use Rattle.bound.proofs.bundles.ids_len.Tie as tie
+
+mul-result : tie.Need-mul-result
+mul-result c = search needs
+
+add-result : tie.Need-add-result
+add-result c = search needs
+
+returns : tie.Need-returns
+returns c = (refl, λ ids h. omega (arith, h, ids-length ids))
+
+pub ids-len-spec : {M : Type 1} → statement M
+ids-len-spec = tie.close (tie.spec mul-result add-result returns)

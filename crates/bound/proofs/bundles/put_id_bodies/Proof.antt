@@ -1,0 +1,77 @@
+-- `bound::bundles::put_id_bodies` meets its contract. The invariant: what is left of the bodies, written, gives all of them.
+-- Assumes nothing.
+use borrow.Author.Needs.{needs}
+use native.Mathlib.Omega.{arith}
+use mathlib.Core.List.{List}
+use Prim.Native.Nat.{ℕ, _-_, _≤_}
+use lib.ListN.{length, drop, length-drop, drop-of-length-le}
+use Rattle.codec.specs.Layout.{alone}
+use Rattle.value.specs.Parts.{columnId}
+use Rattle.bound.specs.Bundles.{bodies}
+use Rattle.bound.specs.Made.{columnIds}
+use Rattle.bound.specs.Spelt.{ids-bodies, ids-bodies-next}
+use Rattle.bound.specs.Written.{Rest, rest-all, rest-less, rest-none}
+use Rattle.bound.proofs.bundles.put_id_bodies.Statement.{statement}
+use Rattle.bound.proofs.bundles.put_id_bodies.Tie as tie
+
+abbrev left : List ℕ → ℕ → List ℕ
+left ids i = bodies (alone columnId) (columnIds (drop i ids))
+
+abbrev Inv-loop : tie.InvT-loop
+Inv-loop out₀ at ids i₀ to₀ out i to = (i ≤ length ids) × Rest out₀ at (bodies (alone columnId) (columnIds ids)) (left ids i) to out
+
+abbrev μ-loop : tie.MeasureT-loop
+μ-loop out₀ at ids i₀ to₀ out i to = length ids - i
+
+loop-holds : tie.Need-loop-holds Inv-loop μ-loop
+loop-holds c = (omega arith, rest-all _ _ _)
+
+mul-put : tie.Need-mul-put Inv-loop μ-loop
+mul-put c = search needs
+
+shared-slice-read-put : tie.Need-shared-slice-read-put Inv-loop μ-loop
+shared-slice-read-put c = search needs
+
+put-requires : tie.Need-put-requires Inv-loop μ-loop
+put-requires c κs =
+    let l = c .before .before .before .loop in
+    let ids = c .before .before .before .before .before .before .args .ids .now in
+    omega (arith, l .inv .1 .room, l .inv .1 .long, ids-bodies ids, ids-bodies (drop (l .i) ids), length-drop (l .i) ids)
+
+add-i : tie.Need-add-i Inv-loop μ-loop
+add-i c = search needs
+
+loop-less : tie.Need-loop-less Inv-loop μ-loop
+loop-less c = search needs
+
+loop-again : tie.Need-loop-again Inv-loop μ-loop
+loop-again c =
+    let l = c .before .before .before .before .before .before .loop in
+    let ids = c .before .before .before .before .before .before .before .before .before .args .ids .now in
+    (omega arith, rest-less (rw (ids-bodies-next ids (l .i) (c .before .before .before .before .before .loop-test .taken)) at (l .inv .1)) (c .before .before .put .ensures))
+
+same-length : tie.Need-same-length Inv-loop μ-loop
+same-length c = c .before .loop .inv .1 .long
+
+returns : tie.Need-returns Inv-loop μ-loop
+unfolding bodies
+returns c =
+    let l = c .before .loop in
+    let ids = c .before .before .before .before .args .ids .now in
+    rest-none (rw (drop-of-length-le ids {i = l .i} (c .loop-test .left)) at (l .inv .1))
+
+pub put-id-bodies-spec : {M : Type 1} → statement M
+put-id-bodies-spec =
+    tie.close
+    (tie.spec
+    Inv-loop
+    μ-loop
+    loop-holds
+    mul-put
+    shared-slice-read-put
+    put-requires
+    add-i
+    loop-less
+    loop-again
+    same-length
+    returns)
