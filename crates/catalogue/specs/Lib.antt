@@ -1,3 +1,4 @@
 pub mod Layout
 pub mod Shapes
+pub mod Held
 pub mod Values

@@ -1,9 +1,14 @@
 // The catalogue's image. `specs/Layout.antt` has its layout and the two round trips.
+use rules::ColumnId;
+use rules::DataType;
+use rules::TableId;
 ghost use mathlib.Core.Path.{_≡_};
 ghost use Rattle.codec.specs.Layout.{alone, listOf};
 ghost use Rattle.bundle.specs.Bundle.{isThere};
 ghost use Rattle.value.specs.Parts.{columnId, columnNumbers, columnSchema};
+ghost use Rattle.rules.specs.Tables.{ColumnSchema, TableSchema};
 ghost use Rattle.catalogue.specs.Layout.{tableNumbers, table};
+ghost use Rattle.catalogue.specs.Held.{Holds, Is};
 
 // Whether bytes are a column's numbers: an id of 8 bytes, a type code and a mark.
 fn are_column_numbers(s: &[u8]) -> bool
@@ -91,4 +96,85 @@ fn is_table_shape(s: &[u8]) -> bool
         return false;
     }
     are_ids(bundle::part(s, 2, 3))
+}
+
+// ---- a table's fields
+
+pub fn table_id(t: &[u8]) -> TableId
+    requires { ⌜ Is table (now t) ⌝ }
+    ensures { λ r. ⌜ ((v : TableSchema) → Holds table (now (t .entry)) v → r ≡ v .id) ⌝ }
+{
+    let numbers = bundle::part(t, 2, 0);
+    TableId(wire::get(numbers, 0, 8))
+}
+
+pub fn version(t: &[u8]) -> u64
+    requires { ⌜ Is table (now t) ⌝ }
+    ensures { λ r. ⌜ ((v : TableSchema) → Holds table (now (t .entry)) v → r ≡ v .version) ⌝ }
+{
+    let numbers = bundle::part(t, 2, 0);
+    wire::get(numbers, 8, 8)
+}
+
+pub fn table_name(t: &[u8]) -> &[u8]
+    requires { ⌜ Is table (now t) ⌝ }
+    ensures { λ r. ⌜ ((v : TableSchema) → Holds table (now (t .entry)) v → now r ≡ v .name) ⌝ }
+{
+    bundle::part(t, 2, 1)
+}
+
+// The list of the columns.
+pub fn columns(t: &[u8]) -> &[u8]
+    requires { ⌜ Is table (now t) ⌝ }
+    ensures { λ r. ⌜ ((v : TableSchema) → Holds table (now (t .entry)) v → Holds (listOf 2 (columnSchema 2)) (now r) (v .columns)) ⌝ }
+{
+    bundle::part(t, 2, 2)
+}
+
+// The list of the key's ids.
+pub fn key(t: &[u8]) -> &[u8]
+    requires { ⌜ Is table (now t) ⌝ }
+    ensures { λ r. ⌜ ((v : TableSchema) → Holds table (now (t .entry)) v → Holds (listOf 2 (alone columnId)) (now r) (v .key)) ⌝ }
+{
+    bundle::part(t, 2, 3)
+}
+
+// ---- a column's fields
+
+pub fn column_id(c: &[u8]) -> ColumnId
+    requires { ⌜ Is (columnSchema 2) (now c) ⌝ }
+    ensures { λ r. ⌜ ((v : ColumnSchema) → Holds (columnSchema 2) (now (c .entry)) v → r ≡ v .id) ⌝ }
+{
+    let numbers = bundle::part(c, 2, 0);
+    ColumnId(wire::get(numbers, 0, 8))
+}
+
+pub fn column_type(c: &[u8]) -> DataType
+    requires { ⌜ Is (columnSchema 2) (now c) ⌝ }
+    ensures { λ r. ⌜ ((v : ColumnSchema) → Holds (columnSchema 2) (now (c .entry)) v → r ≡ v .ty) ⌝ }
+{
+    let numbers = bundle::part(c, 2, 0);
+    let code = numbers[8];
+    if code == 0 {
+        return DataType::Int;
+    }
+    if code == 1 {
+        return DataType::Text;
+    }
+    DataType::Bool
+}
+
+pub fn column_nullable(c: &[u8]) -> bool
+    requires { ⌜ Is (columnSchema 2) (now c) ⌝ }
+    ensures { λ r. ⌜ ((v : ColumnSchema) → Holds (columnSchema 2) (now (c .entry)) v → r ≡ v .nullable) ⌝ }
+{
+    let numbers = bundle::part(c, 2, 0);
+    numbers[9] == 1
+}
+
+pub fn column_name(c: &[u8]) -> &[u8]
+    requires { ⌜ Is (columnSchema 2) (now c) ⌝ }
+    ensures { λ r. ⌜ ((v : ColumnSchema) → Holds (columnSchema 2) (now (c .entry)) v → now r ≡ v .name) ⌝ }
+{
+    bundle::part(c, 2, 1)
 }
