@@ -38,7 +38,6 @@ module _ {A : Type 0} (f : Format A) {s : List ℕ} where
   pub list-bundle : Is (listOf 2 f) s → IsBundle 2 s
   list-bundle i = record { there = and-of (isThere (pieces 2 .read s)) (all (λ p. isThere (f .read p)) (partsOf 2 s)) (sym (list-is 2 f s) ∙ i .there) .0 }
 
-
 pub list-count : {A : Type 0} (f : Format A) (s : List ℕ) {vs : List A} → Holds (listOf 2 f) s vs → length vs ≡ length (partsOf 2 s)
 list-count f s h = list-values 2 f s h .count
 

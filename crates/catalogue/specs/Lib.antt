@@ -2,3 +2,4 @@ pub mod Layout
 pub mod Shapes
 pub mod Held
 pub mod Values
+pub mod Finds

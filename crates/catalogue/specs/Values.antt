@@ -54,10 +54,13 @@ pub record IdHeld (s : List ℕ) (v : ColumnId) : Type 0 where
   pub wide : length s ≡ 8
   pub id : v ≡ idOf s
 
-pub id-held : {s : List ℕ} {v : ColumnId} → Holds (alone columnId) s v → IdHeld s v
-id-held {s} {v} e =
+pub id-held : (s : List ℕ) {v : ColumnId} → Holds (alone columnId) s v → IdHeld s v
+id-held s {v} e =
     let n = field-value columnIdSpot s e in
     record { wide = n .0; id = sym (Option·some-injective (idOf s) v (n .1)) }
+
+pub id-wide : {s : List ℕ} → Is (alone columnId) s → length s ≡ 8
+id-wide {s} i = held i (λ v h. id-held s h .wide)
 
 -- ---- a column
 
