@@ -1,6 +1,6 @@
 -- What is said of a part of a statement's image: that it is one, and what it holds.
 -- Assumes nothing: these are definitions.
-use mathlib.Core.Path.{_≡_}
+use mathlib.Core.Path.{_≡_, ap, _∙_}
 use mathlib.Core.Bool.{Bool, true}
 use mathlib.Core.Option.{some}
 use mathlib.Core.List.{List}
@@ -20,3 +20,7 @@ Holds f s v = f .read s ≡ some v
 pub record Shows {A : Type 0} (f : Format A) (t : A → Bool) (s : List ℕ) : Type 0 where
   pub there : isThere (f .read s) ≡ true
   pub case : (v : A) → Holds f s v → t v ≡ true
+
+-- the same bytes hold the same
+pub same : {A : Type 0} (f : Format A) {p q : List ℕ} {v : A} → p ≡ q → Holds f q v → Holds f p v
+same f h e = ap (f .read) h ∙ e

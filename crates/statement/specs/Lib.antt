@@ -5,3 +5,8 @@ pub mod InsertShapes
 pub mod Held
 pub mod CreateHeld
 pub mod InsertHeld
+pub mod NamesHeld
+pub mod SelectHeld
+pub mod UpdateHeld
+pub mod DeleteHeld
+pub mod StatementHeld

@@ -1,11 +1,15 @@
 // A DELETE.
 use crate::heads::are_marks;
 use crate::heads::behind;
+use crate::heads::mark_in;
 use crate::select::is_condition;
 use crate::table::is_table;
 ghost use mathlib.Core.Path.{_≡_};
 ghost use Rattle.bundle.specs.Bundle.{isThere};
-ghost use Rattle.statement.specs.Layout.{deleteFrom, deletion};
+ghost use Rattle.statement.specs.Layout.{tableWithJoins, condition, deleteFrom, deletion};
+ghost use Rattle.rules.specs.Statements.{TableWithJoins, one, DeleteFrom, from, Delete};
+ghost use Rattle.statement.specs.Held.{Is, Holds};
+ghost use Rattle.statement.specs.DeleteHeld.{deleteFromNo};
 
 // Code 0: without the keyword FROM. Code 1: another number of tables than one. Neither holds anything. Code 2: the table.
 pub fn is_delete_from(s: &[u8]) -> bool
@@ -36,4 +40,70 @@ pub fn is_delete(s: &[u8]) -> bool
         return false;
     }
     is_condition(bundle::part(s, 2, 2))
+}
+
+// ---- what a DELETE holds
+
+pub fn has_tables(d: &[u8]) -> bool
+    requires { ⌜ Is deletion (now d) ⌝ }
+    ensures { λ r. ⌜ ((v : Delete) → Holds deletion (now (d .entry)) v → r ≡ v .tables) ⌝ }
+{
+    mark_in(d, 0)
+}
+
+pub fn has_using(d: &[u8]) -> bool
+    requires { ⌜ Is deletion (now d) ⌝ }
+    ensures { λ r. ⌜ ((v : Delete) → Holds deletion (now (d .entry)) v → r ≡ v .usingClause) ⌝ }
+{
+    mark_in(d, 1)
+}
+
+pub fn has_returning(d: &[u8]) -> bool
+    requires { ⌜ Is deletion (now d) ⌝ }
+    ensures { λ r. ⌜ ((v : Delete) → Holds deletion (now (d .entry)) v → r ≡ v .returning) ⌝ }
+{
+    mark_in(d, 2)
+}
+
+pub fn has_order_by(d: &[u8]) -> bool
+    requires { ⌜ Is deletion (now d) ⌝ }
+    ensures { λ r. ⌜ ((v : Delete) → Holds deletion (now (d .entry)) v → r ≡ v .orderBy) ⌝ }
+{
+    mark_in(d, 3)
+}
+
+pub fn has_limit(d: &[u8]) -> bool
+    requires { ⌜ Is deletion (now d) ⌝ }
+    ensures { λ r. ⌜ ((v : Delete) → Holds deletion (now (d .entry)) v → r ≡ v .limit) ⌝ }
+{
+    mark_in(d, 4)
+}
+
+pub fn from_of(d: &[u8]) -> &[u8]
+    requires { ⌜ Is deletion (now d) ⌝ }
+    ensures { λ r. ⌜ ((v : Delete) → Holds deletion (now (d .entry)) v → Holds deleteFrom (now r) (v .from)) ⌝ }
+{
+    bundle::part(d, 2, 1)
+}
+
+pub fn condition_of(d: &[u8]) -> &[u8]
+    requires { ⌜ Is deletion (now d) ⌝ }
+    ensures { λ r. ⌜ ((v : Delete) → Holds deletion (now (d .entry)) v → Holds condition (now r) (v .condition)) ⌝ }
+{
+    bundle::part(d, 2, 2)
+}
+
+// 0: without the keyword FROM. 1: another number of tables than one. 2: the table.
+pub fn from_code(f: &[u8]) -> u8
+    requires { ⌜ Is deleteFrom (now f) ⌝ }
+    ensures { λ r. ⌜ ((v : DeleteFrom) → Holds deleteFrom (now (f .entry)) v → r ≡ deleteFromNo v) ⌝ }
+{
+    f[0]
+}
+
+pub fn table_of(f: &[u8]) -> &[u8]
+    requires { ⌜ Is deleteFrom (now f) ⌝ }
+    ensures { λ r. ⌜ ((t : TableWithJoins) → Holds deleteFrom (now (f .entry)) (from (one t)) → Holds tableWithJoins (now r) t) ⌝ }
+{
+    behind(f)
 }

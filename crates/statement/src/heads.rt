@@ -1,7 +1,10 @@
 // What stands in front of something else, one byte, and marks alone: 0 for no, 1 for yes.
 ghost use mathlib.Core.Path.{_≡_};
+ghost use mathlib.Core.List.{[]};
 ghost use Prim.Native.Nat.{_<_};
-ghost use lib.ListN.{length, drop};
+ghost use lib.ListN.{length, drop, getD};
+ghost use lib.Dec.{eqb};
+ghost use Rattle.bundle.specs.Bundle.{partsOf};
 ghost use Rattle.bundle.specs.Heads.{areMarks};
 
 // What follows the first byte.
@@ -27,4 +30,13 @@ pub fn are_marks(s: &[u8], n: usize) -> bool
         i += 1;
     }
     true
+}
+
+// Mark k of the marks that are a record's first part.
+pub fn mark_in(s: &[u8], k: usize) -> bool
+    requires { ⌜ k < length (getD (partsOf 2 (now s)) 0 []) ⌝ }
+    ensures { λ r. ⌜ r ≡ eqb (getD (getD (partsOf 2 (now (s .entry))) 0 []) k 0) 1 ⌝ }
+{
+    let marks = bundle::part(s, 2, 0);
+    marks[k] == 1
 }

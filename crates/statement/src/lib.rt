@@ -14,6 +14,11 @@ use crate::heads::behind;
 ghost use mathlib.Core.Path.{_≡_};
 ghost use Rattle.bundle.specs.Bundle.{isThere};
 ghost use Rattle.statement.specs.Layout.{kind, statement};
+ghost use mathlib.Core.Bool.{Bool};
+ghost use Rattle.codec.specs.Layout.{mark, both, alone};
+ghost use Rattle.rules.specs.Statements.{Statement};
+ghost use Rattle.statement.specs.Held.{Is, Holds};
+ghost use Rattle.statement.specs.StatementHeld.{kindNo, KindHolds};
 
 // One byte, the kind, and what follows by kind.
 fn is_kind(s: &[u8]) -> bool
@@ -49,4 +54,53 @@ pub fn is_statement(s: &[u8]) -> bool
         return false;
     }
     is_kind(bundle::part(s, 2, 1))
+}
+
+// ---- what a statement holds
+
+// What the client sent.
+pub fn raw_of(s: &[u8]) -> &[u8]
+    requires { ⌜ Is statement (now s) ⌝ }
+    ensures { λ r. ⌜ ((v : Statement) → Holds statement (now (s .entry)) v → now r ≡ v .raw) ⌝ }
+{
+    bundle::part(s, 2, 0)
+}
+
+// 0 to 9, as docs/IMAGES.md numbers the kinds.
+pub fn kind_code(s: &[u8]) -> u8
+    requires { ⌜ Is statement (now s) ⌝ }
+    ensures { λ r. ⌜ ((v : Statement) → Holds statement (now (s .entry)) v → r ≡ kindNo (v .kind)) ⌝ }
+{
+    let k = bundle::part(s, 2, 1);
+    k[0]
+}
+
+// What follows the kind.
+pub fn kind_body(s: &[u8]) -> &[u8]
+    requires { ⌜ Is statement (now s) ⌝ }
+    ensures { λ r. ⌜ ((v : Statement) → Holds statement (now (s .entry)) v → KindHolds (v .kind) (now r)) ⌝ }
+{
+    behind(bundle::part(s, 2, 1))
+}
+
+// The one mark of a BEGIN, a COMMIT or a SHOW TABLES.
+pub fn is_marked(b: &[u8]) -> bool
+    requires { ⌜ Is (alone mark) (now b) ⌝ }
+    ensures { λ r. ⌜ ((m : Bool) → Holds (alone mark) (now (b .entry)) m → r ≡ m) ⌝ }
+{
+    b[0] == 1
+}
+
+pub fn rollback_chain(b: &[u8]) -> bool
+    requires { ⌜ Is (alone (both mark mark)) (now b) ⌝ }
+    ensures { λ r. ⌜ ((m n : Bool) → Holds (alone (both mark mark)) (now (b .entry)) (m, n) → r ≡ m) ⌝ }
+{
+    b[0] == 1
+}
+
+pub fn rollback_savepoint(b: &[u8]) -> bool
+    requires { ⌜ Is (alone (both mark mark)) (now b) ⌝ }
+    ensures { λ r. ⌜ ((m n : Bool) → Holds (alone (both mark mark)) (now (b .entry)) (m, n) → r ≡ n) ⌝ }
+{
+    b[1] == 1
 }

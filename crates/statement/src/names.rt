@@ -4,6 +4,9 @@ ghost use mathlib.Core.Path.{_≡_};
 ghost use Rattle.codec.specs.Layout.{listOf};
 ghost use Rattle.bundle.specs.Bundle.{isThere};
 ghost use Rattle.statement.specs.Layout.{name, objectName};
+ghost use Rattle.rules.specs.Statements.{Name, ObjectName, plain};
+ghost use Rattle.statement.specs.Held.{Is, Holds};
+ghost use Rattle.statement.specs.NamesHeld.{objectNameNo};
 
 // A mark, whether the name is quoted, and the name's text.
 pub fn is_name(s: &[u8]) -> bool
@@ -50,4 +53,37 @@ pub fn are_names(s: &[u8]) -> bool
         at = end;
     }
     true
+}
+
+// ---- what a name holds
+
+pub fn name_is_quoted(n: &[u8]) -> bool
+    requires { ⌜ Is name (now n) ⌝ }
+    ensures { λ r. ⌜ ((v : Name) → Holds name (now (n .entry)) v → r ≡ v .quoted) ⌝ }
+{
+    n[0] == 1
+}
+
+// Without its quotes.
+pub fn name_text(n: &[u8]) -> &[u8]
+    requires { ⌜ Is name (now n) ⌝ }
+    ensures { λ r. ⌜ ((v : Name) → Holds name (now (n .entry)) v → now r ≡ v .text) ⌝ }
+{
+    behind(n)
+}
+
+// 0: several parts. 1: one part.
+pub fn object_name_code(o: &[u8]) -> u8
+    requires { ⌜ Is objectName (now o) ⌝ }
+    ensures { λ r. ⌜ ((v : ObjectName) → Holds objectName (now (o .entry)) v → r ≡ objectNameNo v) ⌝ }
+{
+    o[0]
+}
+
+// The one part.
+pub fn only_name(o: &[u8]) -> &[u8]
+    requires { ⌜ Is objectName (now o) ⌝ }
+    ensures { λ r. ⌜ ((n : Name) → Holds objectName (now (o .entry)) (plain n) → Holds name (now r) n) ⌝ }
+{
+    behind(o)
 }

@@ -1,12 +1,17 @@
 // A query: a mark, then nothing more than that it is no plain SELECT, or the SELECT.
 use crate::heads::are_marks;
 use crate::heads::behind;
+use crate::heads::mark_in;
 use crate::names::is_name;
 use crate::table::is_table;
 ghost use mathlib.Core.Path.{_≡_};
 ghost use Rattle.codec.specs.Layout.{listOf};
 ghost use Rattle.bundle.specs.Bundle.{isThere};
-ghost use Rattle.statement.specs.Layout.{item, selectFrom, condition, select, queryBody, selection};
+ghost use Rattle.statement.specs.Layout.{name, tableWithJoins, item, selectFrom, condition, select, queryBody, selection};
+ghost use mathlib.Core.Option.{Option};
+ghost use Rattle.rules.specs.Statements.{Name, Expr, TableWithJoins, Item, column, From, one, Select, QueryBody, plainSelect, Query};
+ghost use Rattle.statement.specs.Held.{Is, Holds};
+ghost use Rattle.statement.specs.SelectHeld.{itemNo, fromNo, bodyNo};
 
 // Code 0: any other item. Code 1: `*`. Code 2: a column's name.
 pub fn is_item(s: &[u8]) -> bool
@@ -111,4 +116,102 @@ pub fn is_query(s: &[u8]) -> bool
         return false;
     }
     is_query_body(behind(s))
+}
+
+// ---- what a query holds
+
+pub fn has_clauses(q: &[u8]) -> bool
+    requires { ⌜ Is selection (now q) ⌝ }
+    ensures { λ r. ⌜ ((v : Query) → Holds selection (now (q .entry)) v → r ≡ v .clauses) ⌝ }
+{
+    q[0] == 1
+}
+
+pub fn body_of(q: &[u8]) -> &[u8]
+    requires { ⌜ Is selection (now q) ⌝ }
+    ensures { λ r. ⌜ ((v : Query) → Holds selection (now (q .entry)) v → Holds queryBody (now r) (v .body)) ⌝ }
+{
+    behind(q)
+}
+
+// 0: no plain SELECT. 1: a SELECT.
+pub fn body_code(b: &[u8]) -> u8
+    requires { ⌜ Is queryBody (now b) ⌝ }
+    ensures { λ r. ⌜ ((v : QueryBody) → Holds queryBody (now (b .entry)) v → r ≡ bodyNo v) ⌝ }
+{
+    b[0]
+}
+
+pub fn select_of(b: &[u8]) -> &[u8]
+    requires { ⌜ Is queryBody (now b) ⌝ }
+    ensures { λ r. ⌜ ((s : Select) → Holds queryBody (now (b .entry)) (plainSelect s) → Holds select (now r) s) ⌝ }
+{
+    behind(b)
+}
+
+pub fn has_features(s: &[u8]) -> bool
+    requires { ⌜ Is select (now s) ⌝ }
+    ensures { λ r. ⌜ ((v : Select) → Holds select (now (s .entry)) v → r ≡ v .features) ⌝ }
+{
+    mark_in(s, 0)
+}
+
+pub fn from_of(s: &[u8]) -> &[u8]
+    requires { ⌜ Is select (now s) ⌝ }
+    ensures { λ r. ⌜ ((v : Select) → Holds select (now (s .entry)) v → Holds selectFrom (now r) (v .from)) ⌝ }
+{
+    bundle::part(s, 2, 1)
+}
+
+pub fn items_of(s: &[u8]) -> &[u8]
+    requires { ⌜ Is select (now s) ⌝ }
+    ensures { λ r. ⌜ ((v : Select) → Holds select (now (s .entry)) v → Holds (listOf 2 item) (now r) (v .items)) ⌝ }
+{
+    bundle::part(s, 2, 2)
+}
+
+pub fn condition_of(s: &[u8]) -> &[u8]
+    requires { ⌜ Is select (now s) ⌝ }
+    ensures { λ r. ⌜ ((v : Select) → Holds select (now (s .entry)) v → Holds condition (now r) (v .condition)) ⌝ }
+{
+    bundle::part(s, 2, 3)
+}
+
+// ---- its parts
+
+// 0: another number of tables than one. 1: the table.
+pub fn from_code(f: &[u8]) -> u8
+    requires { ⌜ Is selectFrom (now f) ⌝ }
+    ensures { λ r. ⌜ ((v : From) → Holds selectFrom (now (f .entry)) v → r ≡ fromNo v) ⌝ }
+{
+    f[0]
+}
+
+pub fn table_of(f: &[u8]) -> &[u8]
+    requires { ⌜ Is selectFrom (now f) ⌝ }
+    ensures { λ r. ⌜ ((t : TableWithJoins) → Holds selectFrom (now (f .entry)) (one t) → Holds tableWithJoins (now r) t) ⌝ }
+{
+    behind(f)
+}
+
+// 0: any other. 1: `*`. 2: a column.
+pub fn item_code(i: &[u8]) -> u8
+    requires { ⌜ Is item (now i) ⌝ }
+    ensures { λ r. ⌜ ((v : Item) → Holds item (now (i .entry)) v → r ≡ itemNo v) ⌝ }
+{
+    i[0]
+}
+
+pub fn column_of(i: &[u8]) -> &[u8]
+    requires { ⌜ Is item (now i) ⌝ }
+    ensures { λ r. ⌜ ((n : Name) → Holds item (now (i .entry)) (column n) → Holds name (now r) n) ⌝ }
+{
+    behind(i)
+}
+
+// Whether there is a condition. Where there is one, its bytes are the expression's (`condition-holds`).
+pub fn has_condition(c: &[u8]) -> bool
+    ensures { λ r. ⌜ ((v : Option Expr) → Holds condition (now (c .entry)) v → r ≡ isThere v) ⌝ }
+{
+    c.len() != 0
 }

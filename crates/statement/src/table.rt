@@ -3,8 +3,12 @@ use crate::heads::behind;
 use crate::names::is_object_name;
 ghost use mathlib.Core.Path.{_≡_};
 ghost use Rattle.bundle.specs.Bundle.{isThere};
-ghost use Rattle.statement.specs.Layout.{relation, tableWithJoins};
+ghost use Rattle.statement.specs.Layout.{objectName, relation, tableWithJoins};
 ghost use Rattle.statement.specs.Shapes.{directForm};
+ghost use Rattle.rules.specs.Statements.{ObjectName, TableWithJoins, Relation, direct};
+ghost use mathlib.Core.Bool.{Bool};
+ghost use Rattle.statement.specs.Held.{Is, Holds, Shows};
+ghost use Rattle.statement.specs.NamesHeld.{relationNo, isDirect};
 
 // What code 1 of a relation has behind it: a mark and an object name.
 fn is_direct(s: &[u8]) -> bool
@@ -44,4 +48,42 @@ pub fn is_table(s: &[u8]) -> bool
         return false;
     }
     is_relation(behind(s))
+}
+
+// ---- what a table holds
+
+pub fn has_joins(t: &[u8]) -> bool
+    requires { ⌜ Is tableWithJoins (now t) ⌝ }
+    ensures { λ r. ⌜ ((v : TableWithJoins) → Holds tableWithJoins (now (t .entry)) v → r ≡ v .joins) ⌝ }
+{
+    t[0] == 1
+}
+
+pub fn relation_of(t: &[u8]) -> &[u8]
+    requires { ⌜ Is tableWithJoins (now t) ⌝ }
+    ensures { λ r. ⌜ ((v : TableWithJoins) → Holds tableWithJoins (now (t .entry)) v → Holds relation (now r) (v .relation)) ⌝ }
+{
+    behind(t)
+}
+
+// 0: no table of its own. 1: a table.
+pub fn relation_code(s: &[u8]) -> u8
+    requires { ⌜ Is relation (now s) ⌝ }
+    ensures { λ r. ⌜ ((v : Relation) → Holds relation (now (s .entry)) v → r ≡ relationNo v) ⌝ }
+{
+    s[0]
+}
+
+pub fn relation_is_marked(s: &[u8]) -> bool
+    requires { ⌜ Shows relation isDirect (now s) ⌝ }
+    ensures { λ r. ⌜ ((m : Bool) (n : ObjectName) → Holds relation (now (s .entry)) (direct m n) → r ≡ m) ⌝ }
+{
+    s[1] == 1
+}
+
+pub fn relation_name(s: &[u8]) -> &[u8]
+    requires { ⌜ Shows relation isDirect (now s) ⌝ }
+    ensures { λ r. ⌜ ((m : Bool) (n : ObjectName) → Holds relation (now (s .entry)) (direct m n) → Holds objectName (now r) n) ⌝ }
+{
+    behind(behind(s))
 }

@@ -28,7 +28,9 @@ is-utf8-requires : tie.Need-is-utf8-requires
 is-utf8-requires c κs = search needs
 
 returns-2 : tie.Need-returns-2
-returns-2 c = fails (statement-decided (c .before .before .before .before .before .before .args .s .now)) 1 (failed (told isUtf8 (c .before .is-utf8 .ensures) (c .before .before .part .ensures)) (c .if2 .taken))
+returns-2 c =
+    fails (statement-decided (c .before .before .before .before .before .before .args .s .now)) 1
+    (failed (told isUtf8 (c .before .is-utf8 .ensures) (c .before .before .part .ensures)) (c .if2 .taken))
 
 part-requires-2 : tie.Need-part-requires-2
 part-requires-2 c κs = let i = shaped (c .before .before .before) in search needs

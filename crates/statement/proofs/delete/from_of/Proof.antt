@@ -1,0 +1,17 @@
+-- `statement::delete::from_of` meets its contract.
+-- Assumes nothing.
+use borrow.Author.Needs.{needs}
+use Rattle.statement.specs.Held.{same}
+use Rattle.statement.specs.DeleteHeld.{delete-has, delete-whole}
+use Rattle.statement.specs.Layout.{deleteFrom}
+use Rattle.statement.proofs.delete.from_of.Statement.{statement}
+use Rattle.statement.proofs.delete.from_of.Tie as tie
+
+part-requires : tie.Need-part-requires
+part-requires c κs = let r = delete-whole (c .before .pre) in search needs
+
+returns : tie.Need-returns
+returns c = λ v h. same deleteFrom (c .part .ensures) (delete-has _ v h .from)
+
+pub from-of-spec : {M : Type 1} → statement M
+from-of-spec = tie.close (tie.spec part-requires returns)

@@ -1,0 +1,18 @@
+-- `statement::names::only_name` meets its contract.
+-- Assumes nothing.
+use native.Mathlib.Omega.{arith}
+use Rattle.statement.specs.Held.{same}
+use Rattle.rules.specs.Statements.{plain}
+use Rattle.statement.specs.NamesHeld.{object-name-has, object-name-wide}
+use Rattle.statement.specs.Layout.{name}
+use Rattle.statement.proofs.names.only_name.Statement.{statement}
+use Rattle.statement.proofs.names.only_name.Tie as tie
+
+behind-requires : tie.Need-behind-requires
+behind-requires c κs = omega (arith, object-name-wide (c .before .pre))
+
+returns : tie.Need-returns
+returns c = λ x h. same name (c .behind .ensures) (object-name-has _ (plain x) h .content)
+
+pub only-name-spec : {M : Type 1} → statement M
+only-name-spec = tie.close (tie.spec behind-requires returns)

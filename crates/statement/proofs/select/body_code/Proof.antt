@@ -1,0 +1,15 @@
+-- `statement::select::body_code` meets its contract.
+-- Assumes nothing.
+use native.Mathlib.Omega.{arith}
+use Rattle.statement.specs.SelectHeld.{body-has, body-wide}
+use Rattle.statement.proofs.select.body_code.Statement.{statement}
+use Rattle.statement.proofs.select.body_code.Tie as tie
+
+shared-slice-read-result : tie.Need-shared-slice-read-result
+shared-slice-read-result c = omega (arith, body-wide (c .before .pre))
+
+returns : tie.Need-returns
+returns c = λ v h. body-has _ v h .code
+
+pub body-code-spec : {M : Type 1} → statement M
+body-code-spec = tie.close (tie.spec shared-slice-read-result returns)

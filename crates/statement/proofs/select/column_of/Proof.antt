@@ -1,0 +1,18 @@
+-- `statement::select::column_of` meets its contract.
+-- Assumes nothing.
+use native.Mathlib.Omega.{arith}
+use Rattle.statement.specs.Held.{same}
+use Rattle.rules.specs.Statements.{column}
+use Rattle.statement.specs.SelectHeld.{item-has, item-wide}
+use Rattle.statement.specs.Layout.{name}
+use Rattle.statement.proofs.select.column_of.Statement.{statement}
+use Rattle.statement.proofs.select.column_of.Tie as tie
+
+behind-requires : tie.Need-behind-requires
+behind-requires c κs = omega (arith, item-wide (c .before .pre))
+
+returns : tie.Need-returns
+returns c = λ x h. same name (c .behind .ensures) (item-has _ (column x) h .content)
+
+pub column-of-spec : {M : Type 1} → statement M
+column-of-spec = tie.close (tie.spec behind-requires returns)

@@ -1,0 +1,16 @@
+-- `statement::update::has_from` meets its contract.
+-- Assumes nothing.
+use native.Mathlib.Omega.{arith}
+use mathlib.Core.Path.{_∙_}
+use Rattle.statement.specs.UpdateHeld.{update-has, update-wide}
+use Rattle.statement.proofs.update.has_from.Statement.{statement}
+use Rattle.statement.proofs.update.has_from.Tie as tie
+
+mark-in-requires : tie.Need-mark-in-requires
+mark-in-requires c κs = omega (arith, update-wide (c .before .pre))
+
+returns : tie.Need-returns
+returns c = λ v h. c .mark-in .ensures ∙ update-has _ v h .marks .from
+
+pub has-from-spec : {M : Type 1} → statement M
+has-from-spec = tie.close (tie.spec mark-in-requires returns)

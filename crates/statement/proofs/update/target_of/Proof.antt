@@ -1,0 +1,17 @@
+-- `statement::update::target_of` meets its contract.
+-- Assumes nothing.
+use borrow.Author.Needs.{needs}
+use Rattle.statement.specs.Held.{same}
+use Rattle.statement.specs.UpdateHeld.{assignment-has, assignment-whole}
+use Rattle.statement.specs.Layout.{assignmentTarget}
+use Rattle.statement.proofs.update.target_of.Statement.{statement}
+use Rattle.statement.proofs.update.target_of.Tie as tie
+
+part-requires : tie.Need-part-requires
+part-requires c κs = let r = assignment-whole (c .before .pre) in search needs
+
+returns : tie.Need-returns
+returns c = λ v h. same assignmentTarget (c .part .ensures) (assignment-has _ v h .target)
+
+pub target-of-spec : {M : Type 1} → statement M
+target-of-spec = tie.close (tie.spec part-requires returns)
