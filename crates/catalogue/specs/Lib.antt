@@ -3,3 +3,5 @@ pub mod Shapes
 pub mod Held
 pub mod Values
 pub mod Finds
+pub mod Repeats
+pub mod Sound

@@ -12,12 +12,14 @@ ghost use Rattle.bundle.specs.Bundle.{isThere, partsOf, IsBundle};
 ghost use Rattle.value.specs.Parts.{columnId, columnNumbers, columnSchema};
 ghost use Rattle.names.specs.Compared.{named};
 ghost use Rattle.rules.specs.declared.ColumnId.{ColumnId};
-ghost use Rattle.rules.specs.Lists.{any};
+ghost use Rattle.rules.specs.Lists.{any, all, distinct};
 ghost use Rattle.rules.specs.Names.{canonical};
-ghost use Rattle.rules.specs.Tables.{ColumnSchema, TableSchema, sameId};
+ghost use Rattle.rules.specs.Tables.{ColumnSchema, TableSchema, Catalogue, sameId, isKeyColumn, soundTable, sound};
 ghost use Rattle.rules.specs.Lookup.{inKey};
-ghost use Rattle.catalogue.specs.Layout.{tableNumbers, table};
+ghost use Rattle.catalogue.specs.Layout.{tableNumbers, table, catalogue};
 ghost use Rattle.catalogue.specs.Held.{Holds, Is};
+ghost use Rattle.catalogue.specs.Repeats.{Told, AllTold, alikeBy, firstRepeated};
+ghost use Rattle.catalogue.specs.Sound.{hasId, keyColumn, KeyedBy};
 ghost use Rattle.catalogue.specs.Finds.{Lies, FindsTable, Stands, ReadsColumn, FindsColumn};
 
 // Whether bytes are a column's numbers: an id of 8 bytes, a type code and a mark.
@@ -334,4 +336,241 @@ pub fn in_key(t: &[u8], id: ColumnId) -> bool
     ensures { λ r. ⌜ ((v : TableSchema) → Holds table (now (t .entry)) v → r ≡ inKey v id) ⌝ }
 {
     has_id(key(t), id)
+}
+
+// ---- soundness
+
+// What tells two entries of a list apart: the name of a table or a column, its id, or an id that stands for itself.
+enum By {
+    Name,
+    Id,
+    Whole,
+}
+
+// Whether two entries are alike.
+fn alike(a: &[u8], b: &[u8], by: By) -> bool
+    requires { ⌜ Told by (now a) × Told by (now b) ⌝ }
+    ensures { λ r. ⌜ r ≡ alikeBy by (now (a .entry)) (now (b .entry)) ⌝ }
+{
+    match by {
+        By::Name => names::same(bundle::part(a, 2, 1), bundle::part(b, 2, 1)),
+        By::Id => wire::get(bundle::part(a, 2, 0), 0, 8) == wire::get(bundle::part(b, 2, 0), 0, 8),
+        By::Whole => wire::get(a, 0, 8) == wire::get(b, 0, 8),
+    }
+}
+
+pub enum Repeat {
+    Nowhere,
+    At(usize),
+}
+
+// The first entry that a later one repeats: both loops are left at once.
+fn first_repeat(s: &[u8], by: By) -> Repeat
+    requires { ⌜ IsBundle 2 (now s) × AllTold by (now s) ⌝ }
+    ensures { λ r. ⌜ r ≡ firstRepeated (alikeBy by) 0 (partsOf 2 (now (s .entry))) ⌝ }
+{
+    let n = bundle::parts(s, 2);
+    let mut place = Repeat::Nowhere;
+    let mut at = bundle::first(s, 2);
+    let mut i = 0;
+    'search: while i < n {
+        let end = bundle::next(s, 2, i, at);
+        let mut from = end;
+        let mut j = i + 1;
+        while j < n {
+            let to = bundle::next(s, 2, j, from);
+            if alike(&s[at..end], &s[from..to], by) {
+                place = Repeat::At(i);
+                break 'search;
+            }
+            from = to;
+            j += 1;
+        }
+        at = end;
+        i += 1;
+    }
+    place
+}
+
+// Whether no two entries are alike.
+fn are_distinct(s: &[u8], by: By) -> bool
+    requires { ⌜ IsBundle 2 (now s) × AllTold by (now s) ⌝ }
+    ensures { λ r. ⌜ r ≡ distinct (alikeBy by) (partsOf 2 (now (s .entry))) ⌝ }
+{
+    match first_repeat(s, by) {
+        Repeat::Nowhere => true,
+        Repeat::At(place) => false,
+    }
+}
+
+// Whether a column's id is not 0.
+fn is_numbered(c: &[u8]) -> bool
+    requires { ⌜ Is (columnSchema 2) (now c) ⌝ }
+    ensures { λ r. ⌜ ((v : ColumnSchema) → Holds (columnSchema 2) (now (c .entry)) v → r ≡ hasId v) ⌝ }
+{
+    if column_id(c).0 == 0 {
+        return false;
+    }
+    true
+}
+
+fn are_numbered(s: &[u8]) -> bool
+    requires { ⌜ Is (listOf 2 (columnSchema 2)) (now s) ⌝ }
+    ensures { λ r. ⌜ ((cs : List ColumnSchema) → Holds (listOf 2 (columnSchema 2)) (now (s .entry)) cs → r ≡ all hasId cs) ⌝ }
+{
+    let n = bundle::parts(s, 2);
+    let mut at = bundle::first(s, 2);
+    let mut i = 0;
+    while i < n {
+        let end = bundle::next(s, 2, i, at);
+        if !is_numbered(&s[at..end]) {
+            return false;
+        }
+        at = end;
+        i += 1;
+    }
+    true
+}
+
+// Whether a column has this id and is not nullable, as a key's columns are.
+fn fits_key(c: &[u8], id: ColumnId) -> bool
+    requires { ⌜ Is (columnSchema 2) (now c) ⌝ }
+    ensures { λ r. ⌜ ((v : ColumnSchema) → Holds (columnSchema 2) (now (c .entry)) v → r ≡ keyColumn id v) ⌝ }
+{
+    if column_id(c).0 != id.0 {
+        return false;
+    }
+    !column_nullable(c)
+}
+
+fn is_key_column(s: &[u8], id: ColumnId) -> bool
+    requires { ⌜ Is (listOf 2 (columnSchema 2)) (now s) ⌝ }
+    ensures { λ r. ⌜ ((cs : List ColumnSchema) → Holds (listOf 2 (columnSchema 2)) (now (s .entry)) cs → r ≡ isKeyColumn cs id) ⌝ }
+{
+    let n = bundle::parts(s, 2);
+    let mut at = bundle::first(s, 2);
+    let mut i = 0;
+    while i < n {
+        let end = bundle::next(s, 2, i, at);
+        if fits_key(&s[at..end], id) {
+            return true;
+        }
+        at = end;
+        i += 1;
+    }
+    false
+}
+
+// Whether an id of a key is that of a column that is not nullable.
+fn is_key_id(p: &[u8], list: &[u8]) -> bool
+    requires { ⌜ Is (alone columnId) (now p) × Is (listOf 2 (columnSchema 2)) (now list) ⌝ }
+    ensures { λ r. ⌜ ((k : ColumnId) → Holds (alone columnId) (now (p .entry)) k → KeyedBy (now (list .entry)) (λ cs. r ≡ isKeyColumn cs k)) ⌝ }
+{
+    is_key_column(list, ColumnId(wire::get(p, 0, 8)))
+}
+
+fn are_key_ids(s: &[u8], list: &[u8]) -> bool
+    requires { ⌜ Is (listOf 2 (alone columnId)) (now s) × Is (listOf 2 (columnSchema 2)) (now list) ⌝ }
+    ensures { λ r. ⌜ ((ids : List ColumnId) → Holds (listOf 2 (alone columnId)) (now (s .entry)) ids → KeyedBy (now (list .entry)) (λ cs. r ≡ all (isKeyColumn cs) ids)) ⌝ }
+{
+    let n = bundle::parts(s, 2);
+    let mut at = bundle::first(s, 2);
+    let mut i = 0;
+    while i < n {
+        let end = bundle::next(s, 2, i, at);
+        if !is_key_id(&s[at..end], list) {
+            return false;
+        }
+        at = end;
+        i += 1;
+    }
+    true
+}
+
+// Column names distinct, ids distinct and nonzero; the key not empty, its ids distinct, present and of columns not nullable.
+pub fn is_sound_table(t: &[u8]) -> bool
+    requires { ⌜ Is table (now t) ⌝ }
+    ensures { λ r. ⌜ ((v : TableSchema) → Holds table (now (t .entry)) v → r ≡ soundTable v) ⌝ }
+{
+    let list = columns(t);
+    if !are_distinct(list, By::Name) {
+        return false;
+    }
+    if !are_distinct(list, By::Id) {
+        return false;
+    }
+    if !are_numbered(list) {
+        return false;
+    }
+    let ids = key(t);
+    if bundle::parts(ids, 2) == 0 {
+        return false;
+    }
+    if !are_distinct(ids, By::Whole) {
+        return false;
+    }
+    are_key_ids(ids, list)
+}
+
+fn are_sound_tables(s: &[u8]) -> bool
+    requires { ⌜ Is (listOf 2 table) (now s) ⌝ }
+    ensures { λ r. ⌜ ((ts : Catalogue) → Holds (listOf 2 table) (now (s .entry)) ts → r ≡ all soundTable ts) ⌝ }
+{
+    let n = bundle::parts(s, 2);
+    let mut at = bundle::first(s, 2);
+    let mut i = 0;
+    while i < n {
+        let end = bundle::next(s, 2, i, at);
+        if !is_sound_table(&s[at..end]) {
+            return false;
+        }
+        at = end;
+        i += 1;
+    }
+    true
+}
+
+// Table names distinct, ids distinct, and each table sound.
+pub fn is_sound(c: &[u8]) -> bool
+    requires { ⌜ Is (listOf 2 table) (now c) ⌝ }
+    ensures { λ r. ⌜ ((ts : Catalogue) → Holds (listOf 2 table) (now (c .entry)) ts → r ≡ sound ts) ⌝ }
+{
+    if !are_distinct(c, By::Name) {
+        return false;
+    }
+    if !are_distinct(c, By::Id) {
+        return false;
+    }
+    are_sound_tables(c)
+}
+
+// Whether bytes are a list of tables, sound or not.
+fn are_tables(s: &[u8]) -> bool
+    ensures { λ r. ⌜ r ≡ isThere (listOf 2 table .read (now (s .entry))) ⌝ }
+{
+    if !bundle::is_bundle(s, 2) {
+        return false;
+    }
+    let n = bundle::parts(s, 2);
+    let mut at = bundle::first(s, 2);
+    let mut i = 0;
+    while i < n {
+        let end = bundle::next(s, 2, i, at);
+        if !is_table_shape(&s[at..end]) {
+            return false;
+        }
+        at = end;
+        i += 1;
+    }
+    true
+}
+
+// Whether bytes are the image of a catalogue.
+pub fn is_catalogue(s: &[u8]) -> bool
+    ensures { λ r. ⌜ r ≡ isThere (catalogue .read (now (s .entry))) ⌝ }
+{
+    if !are_tables(s) {
+        return false;
+    }
+    is_sound(s)
 }
