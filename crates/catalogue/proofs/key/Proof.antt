@@ -1,0 +1,18 @@
+-- `catalogue::key` meets its contract.
+-- Assumes nothing.
+use borrow.Author.Needs.{needs}
+use mathlib.Core.Path.{ap, _∙_}
+use Rattle.codec.specs.Layout.{alone, listOf}
+use Rattle.value.specs.Parts.{columnId}
+use Rattle.catalogue.specs.Values.{table-shape, table-held}
+use Rattle.catalogue.proofs.key.Statement.{statement}
+use Rattle.catalogue.proofs.key.Tie as tie
+
+part-requires : tie.Need-part-requires
+part-requires c κs = let r = table-shape (c .before .pre) .shape in search needs
+
+returns : tie.Need-returns
+returns c = λ v h. ap (listOf 2 (alone columnId) .read) (c .part .ensures) ∙ table-held h .key
+
+pub key-spec : {M : Type 1} → statement M
+key-spec = tie.close (tie.spec part-requires returns)
