@@ -1,0 +1,47 @@
+-- `leaves::column` meets its contract.
+-- Assumes nothing.
+use mathlib.Core.Path.{_∙_}
+use Rattle.rules.specs.Lookup.{columnByName}
+use Rattle.rules.specs.Names.{canonical}
+use Rattle.names.specs.Compared.{named}
+use Rattle.marking.proofs.Looked.{column-is, column-none}
+use borrow.Author.Needs.{needs}
+use Rattle.marking.proofs.leaves.column.Statement.{statement}
+use Rattle.marking.proofs.leaves.column.Tie as tie
+
+find-column-requires : tie.Need-find-column-requires
+find-column-requires c κs = search needs
+
+enum-known-c : tie.Need-enum-known-c
+enum-known-c c = search needs
+
+column-mark-requires : tie.Need-column-mark-requires
+column-mark-requires c κs = search needs
+
+enum-told : tie.Need-enum-told
+enum-told c = search needs
+
+refuse-requires : tie.Need-refuse-requires
+refuse-requires c κs = search needs
+
+returns : tie.Need-returns
+returns c v h =
+    let a = c .before .before .before .before .before .before .before .args in
+    column-is (a .t .now) (columnByName v (canonical (named (a .quoted) (a .name .now)))) _ (c .before .before .before .before .find-column .ensures v h) _ (c .before .before .c .given .1) _ (c .column-mark .ensures)
+
+returns-2 : tie.Need-returns-2
+returns-2 c v h =
+    let a = c .before .before .before .before .before .before .args in
+    c .refuse .ensures ∙ column-none (a .t .now) (columnByName v (canonical (named (a .quoted) (a .name .now)))) _ (c .before .before .before .find-column .ensures v h) (c .before .enum-told .given .1)
+
+pub column-spec : {M : Type 1} → statement M
+column-spec =
+    tie.close
+    (tie.spec
+    find-column-requires
+    enum-known-c
+    column-mark-requires
+    enum-told
+    refuse-requires
+    returns
+    returns-2)

@@ -1,0 +1,68 @@
+-- `nodes::one_operand` meets its contract: in each arm the kind is known.
+-- Assumes nothing.
+use mathlib.Core.Path.{_≡_, _∙_}
+use native.Mathlib.Omega.{arith}
+use Rattle.rules.specs.declared.BoundUnaryOperator.the-variants.{Positive, Negative, Not}
+use Rattle.rules.specs.Marking.{unaryRule}
+use Rattle.rules.specs.Statements.{unary}
+use Rattle.expression.specs.Place.{unOf}
+use Rattle.marking.proofs.Told.{ruled-told}
+use borrow.Author.Needs.{needs}
+use Rattle.marking.proofs.nodes.one_operand.Statement.{statement}
+use Rattle.marking.proofs.nodes.one_operand.Tie as tie
+
+unary-requires : tie.Need-unary-requires
+unary-requires c κs = search needs
+
+judge-requires : tie.Need-judge-requires
+judge-requires c κs = search needs
+
+unary-requires-2 : tie.Need-unary-requires-2
+unary-requires-2 c κs = search needs
+
+judge-requires-2 : tie.Need-judge-requires-2
+judge-requires-2 c κs = search needs
+
+unary-requires-3 : tie.Need-unary-requires-3
+unary-requires-3 c κs = search needs
+
+judge-requires-3 : tie.Need-judge-requires-3
+judge-requires-3 c κs = search needs
+
+refuse-requires : tie.Need-refuse-requires
+refuse-requires c κs = search needs
+
+returns : tie.Need-returns
+unfolding unOf
+returns c =
+    c .judge .ensures ∙ rw (c .before .unary .ensures, c .before .before .match .keys1) (ruled-told (unaryRule (unary Positive) (c .before .before .before .args .m)))
+
+returns-2 : tie.Need-returns-2
+unfolding unOf
+returns-2 c =
+    c .judge2 .ensures ∙ rw (c .before .unary2 .ensures, c .before .before .match .keys2) (ruled-told (unaryRule (unary Negative) (c .before .before .before .args .m)))
+
+returns-3 : tie.Need-returns-3
+unfolding unOf
+returns-3 c =
+    c .judge3 .ensures ∙ rw (c .before .unary3 .ensures, c .before .before .match .keys3) (ruled-told (unaryRule (unary Not) (c .before .before .before .args .m)))
+
+returns-4 : tie.Need-returns-4
+unfolding unOf unaryRule
+returns-4 c = let e : c .before .before .args .k ≡ 15 = omega arith in c .refuse .ensures ∙ rw e
+
+pub one-operand-spec : {M : Type 1} → statement M
+one-operand-spec =
+    tie.close
+    (tie.spec
+    unary-requires
+    judge-requires
+    unary-requires-2
+    judge-requires-2
+    unary-requires-3
+    judge-requires-3
+    refuse-requires
+    returns
+    returns-2
+    returns-3
+    returns-4)

@@ -1,0 +1,89 @@
+// Marks the nodes of an expression over a table. A node's operands are marked before the node, the left one first; the node's number falls
+// on the way round, and the calls are as deep as the expression.
+mod leaves;
+mod nodes;
+
+use expression::kind;
+use expression::span;
+use expression::text;
+use leaves::leaf;
+use leaves::literal;
+use leaves::number;
+use nodes::one_operand;
+use nodes::signs_number;
+use nodes::two_operands;
+use rules::ExpressionType;
+ghost use mathlib.Core.Path.{_≡_};
+ghost use Prim.Native.Nat.{_<_, _≤_};
+ghost use Rattle.expression.specs.Place.{nodeAt};
+ghost use Rattle.marking.specs.Marks.{Markable, Marks};
+
+pub enum Marked {
+    Is(rules::Mark),
+    Refused(rules::Refusal),
+}
+
+// The mark of node i, as docs/IMAGES.md numbers the kinds: 9 parentheses, 10 IS NULL, 11 IS NOT NULL, 12 to 15 one operand, from 16 on two.
+pub fn mark(t: &[u8], e: &[u8], i: usize) -> Marked
+    requires { ⌜ Markable (now t) (now e) i ⌝ }
+    ensures { λ r. ⌜ Marks (now (t .entry)) (now (e .entry)) i r ⌝ }
+{
+    let k = kind(e, i);
+    if k < 9 {
+        return leaf(t, e, i, k);
+    }
+    if 16 <= k {
+        return mark_binary(t, e, i, k);
+    }
+    if k == 9 {
+        return mark(t, e, i - 1);
+    }
+    if k < 12 {
+        return mark_null_test(t, e, i, k);
+    }
+    mark_unary(t, e, i, k)
+}
+
+// IS NULL and IS NOT NULL: what the operand's mark is does not matter, but it must have one.
+fn mark_null_test(t: &[u8], e: &[u8], i: usize, k: u8) -> Marked
+    requires { ⌜ Markable (now t) (now e) i ⌝ }
+    requires { ⌜ (k ≡ (nodeAt (now e) i) .kind) × ((10 ≤ k) × (k < 12)) ⌝ }
+    ensures { λ r. ⌜ Marks (now (t .entry)) (now (e .entry)) i r ⌝ }
+{
+    match mark(t, e, i - 1) {
+        Marked::Is(_) => literal(ExpressionType::Bool, false),
+        Marked::Refused(r) => Marked::Refused(r),
+    }
+}
+
+// A sign, which makes one literal with a number directly below it, NOT, or another operator.
+fn mark_unary(t: &[u8], e: &[u8], i: usize, k: u8) -> Marked
+    requires { ⌜ Markable (now t) (now e) i ⌝ }
+    requires { ⌜ (k ≡ (nodeAt (now e) i) .kind) × ((12 ≤ k) × (k < 16)) ⌝ }
+    ensures { λ r. ⌜ Marks (now (t .entry)) (now (e .entry)) i r ⌝ }
+{
+    let below = i - 1;
+    if signs_number(e, below, k) {
+        return number(text(e, below), k == 13);
+    }
+    match mark(t, e, below) {
+        Marked::Is(m) => one_operand(k, m),
+        Marked::Refused(r) => Marked::Refused(r),
+    }
+}
+
+fn mark_binary(t: &[u8], e: &[u8], i: usize, k: u8) -> Marked
+    requires { ⌜ Markable (now t) (now e) i ⌝ }
+    requires { ⌜ (k ≡ (nodeAt (now e) i) .kind) × (16 ≤ k) ⌝ }
+    ensures { λ r. ⌜ Marks (now (t .entry)) (now (e .entry)) i r ⌝ }
+{
+    let right = i - 1;
+    let left = right - span(e, right);
+    match mark(t, e, left) {
+        Marked::Is(a) => match mark(t, e, right) {
+            Marked::Is(b) => two_operands(k, a, b),
+            Marked::Refused(r) => Marked::Refused(r),
+        },
+        Marked::Refused(r) => Marked::Refused(r),
+    }
+}
