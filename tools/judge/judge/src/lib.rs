@@ -10,3 +10,4 @@ pub mod decode;
 pub mod encode;
 pub mod generate;
 pub mod judge;
+pub mod measure;

@@ -72,3 +72,31 @@ fn a_sample_reads_back_to_the_same_answers() {
     assert_eq!(numbers.iter().sum::<usize>(), 300);
     assert!(numbers.iter().all(|count| *count > 0), "{numbers:?}");
 }
+
+/// Takes a number of four bytes off the front.
+fn take_number(bytes: &mut &[u8]) -> usize {
+    let (number, rest) = bytes.split_first_chunk().expect("four bytes");
+    *bytes = rest;
+    u32::from_le_bytes(*number) as usize
+}
+
+fn take_bytes<'a>(bytes: &mut &'a [u8], length: usize) -> &'a [u8] {
+    let (taken, rest) = bytes.split_at(length);
+    *bytes = rest;
+    taken
+}
+
+#[test]
+fn the_record_in_the_repository_is_what_the_rust_answers() {
+    let file = std::fs::read(concat!(env!("CARGO_MANIFEST_DIR"), "/../../../crates/replay/data/record")).unwrap();
+    let bytes = &mut file.as_slice();
+    let cases = take_number(bytes);
+    for index in 0..cases {
+        let number = take_bytes(bytes, 1)[0];
+        let [room, statement, catalogue, bound] = [(); 4].map(|()| take_number(bytes));
+        let [statement, catalogue, bound] = [statement, catalogue, bound].map(|length| take_bytes(bytes, length));
+        let expected = if number == 0 { Answer::Bound(bound.to_vec()) } else { Answer::Refused(number) };
+        assert_eq!(judge(statement, catalogue, room), expected, "case {index}");
+    }
+    assert!(cases >= 3_000 && bytes.is_empty());
+}

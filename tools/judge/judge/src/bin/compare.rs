@@ -4,6 +4,7 @@ use std::process::ExitCode;
 
 use images::show::{ImageKind, hex, show};
 use judge::compare::mistakes::{mistaken, names};
+use judge::compare::record::record;
 use judge::compare::sample::sample;
 use judge::compare::shrink::shrink;
 use judge::compare::tally::Tally;
@@ -19,6 +20,8 @@ compare --seed S --count N    runs N cases of seed S on both sides and compares 
         --places              also counts every place of the Rust and every planted fault
         --mistake NAME        the other side is the Rust with a mistake planted; NAME 'list' lists them
         --sample N --out FILE writes N cases with the Rust's answers; the format stands at the top of the file
+        --record N --out FILE writes N small cases with the Rust's answers as bytes, and prints what they reach; the
+                              layout stands in crates/replay/data/README
 compare --judge STATEMENT CATALOGUE [--out FILE]
                               what the Rust answers for two image files: 'bound N' or 'refused R', and why. FILE gets
                               the bound image
@@ -32,6 +35,7 @@ struct Command {
     places: bool,
     mistake: Option<String>,
     sample: Option<usize>,
+    record: Option<usize>,
     out: Option<String>,
     judge: Option<[String; 2]>,
     help: bool,
@@ -52,6 +56,7 @@ fn command(arguments: impl Iterator<Item = String>) -> Result<Command, String> {
             "--places" => command.places = true,
             "--mistake" => command.mistake = Some(word()?),
             "--sample" => command.sample = Some(number(word()?)?),
+            "--record" => command.record = Some(number(word()?)?),
             "--out" | "-o" => command.out = Some(word()?),
             "--judge" => command.judge = Some([word()?, word()?]),
             "-h" | "--help" | "help" => command.help = true,
@@ -85,14 +90,22 @@ fn run(command: &Command) -> Result<bool, String> {
         println!("{}", names().join("\n"));
         return Ok(true);
     }
-    match command.sample {
-        Some(count) => {
-            let file = command.out.as_deref().ok_or("--sample needs --out FILE")?;
-            std::fs::write(file, sample(command.seed, count)).map_err(|error| format!("{file}: {error}"))?;
-            Ok(true)
-        }
-        None => compare(command),
+    if let Some(count) = command.sample {
+        write(command, "--sample", sample(command.seed, count).as_bytes())?;
+        return Ok(true);
     }
+    if let Some(count) = command.record {
+        let record = record(command.seed, count)?;
+        write(command, "--record", &record.bytes)?;
+        println!("{}\n{} bytes", record.tally.report(false), record.bytes.len());
+        return Ok(true);
+    }
+    compare(command)
+}
+
+fn write(command: &Command, option: &str, bytes: &[u8]) -> Result<(), String> {
+    let file = command.out.as_deref().ok_or(format!("{option} needs --out FILE"))?;
+    std::fs::write(file, bytes).map_err(|error| format!("{file}: {error}"))
 }
 
 fn judge_files(statement: &str, catalogue: &str, out: Option<&str>) -> Result<bool, String> {

@@ -3,6 +3,7 @@
 pub mod mistakes;
 pub mod other_side;
 pub mod places;
+pub mod record;
 pub mod sample;
 pub mod shrink;
 pub mod tally;

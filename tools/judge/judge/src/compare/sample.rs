@@ -20,7 +20,7 @@ const HEADING: &str = "\
 # 1 to 4 are the Rust's own; 5 to 8 come before it and 9 after it, by paper 01.
 ";
 
-fn verdict_of(case: &Case) -> Verdict {
+pub fn verdict_of(case: &Case) -> Verdict {
     judge_with(&case.statement, &case.catalogue, case.room, &mut Choice::new(0))
 }
 
@@ -54,12 +54,23 @@ const LOOKED_AT: u64 = 20;
 /// Of cases larger than this, each key takes one only.
 const LARGE: usize = 4_000;
 
-/// Takes `count` cases, in turn for every key, small cases first.
+/// `count` cases, in turn for every key, small cases first.
 pub fn sample(seed: u64, count: usize) -> String {
+    let indices = chosen(seed, count, |_, _| true);
+    let lines: String = indices.into_iter().map(|index| line(&planted(seed, index).case)).collect();
+    format!("{HEADING}# Made by: tools/compare --seed {seed} --sample {count}\n{lines}")
+}
+
+/// The indices of `count` of the cases that are admitted, taken in turn for every key, small cases first.
+pub fn chosen(seed: u64, count: usize, mut admits: impl FnMut(&Case, &Verdict) -> bool) -> BTreeSet<u64> {
     let mut found: BTreeMap<String, Vec<(usize, u64)>> = BTreeMap::new();
     for index in 0..count as u64 * LOOKED_AT {
         let made = planted(seed, index);
-        for key in keys_of(&made, &verdict_of(&made.case)) {
+        let verdict = verdict_of(&made.case);
+        if !admits(&made.case, &verdict) {
+            continue;
+        }
+        for key in keys_of(&made, &verdict) {
             found.entry(key).or_default().push((made.case.size(), index));
         }
     }
@@ -72,8 +83,7 @@ pub fn sample(seed: u64, count: usize) -> String {
             }
         }
     }
-    let lines: String = chosen.into_iter().map(|index| line(&planted(seed, index).case)).collect();
-    format!("{HEADING}# Made by: tools/compare --seed {seed} --sample {count}\n{lines}")
+    chosen
 }
 
 fn smallest_last(mut cases: Vec<(usize, u64)>) -> Vec<u64> {

@@ -6,9 +6,10 @@ use super::places::{PLACES, place_of};
 use crate::generate::Case;
 use crate::judge::Verdict;
 
-const NUMBERS: usize = 10;
+/// 0 where a statement binds, and the refusals.
+pub const NUMBERS: usize = 10;
 /// The ten kinds, and bytes that are no statement.
-const KINDS: usize = 11;
+pub const KINDS: usize = 11;
 
 pub struct Tally {
     cases: usize,
