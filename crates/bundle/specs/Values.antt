@@ -13,10 +13,10 @@ use lib.Dec.{eqb, eqb·suc-zero}
 use Rattle.codec.specs.Format.{Format, Fixed, Enum}
 use Rattle.codec.specs.Ways.{next, optionalRead}
 use Rattle.codec.specs.Laws.{next-some, at-place}
-use Rattle.codec.specs.Layout.{nothing, code, bools, mark, headed, both}
+use Rattle.codec.specs.Layout.{nothing, code, bools, mark, headed}
 use Rattle.codec.specs.Sums.{Case, case, Some, made, spread, sum, choice}
 use Rattle.bundle.specs.Bundle.{isThere}
-use Rattle.bundle.specs.Fields.{Spot, codeSpot, bothSpot, bothLook, field-value, headed-value, choice-value, CaseHas, sum-has}
+use Rattle.bundle.specs.Fields.{Spot, codeSpot, bothLook, field-value, headed-value, choice-value, CaseHas, sum-has}
 
 -- a value that was made of another
 pub mapped-value : {A B : Type 0} (o : Option A) (f : A → B) {b : B} → next o (λ a. some (f a)) ≡ some b → (a : A) × (o ≡ some a) × (f a ≡ b)

@@ -33,7 +33,6 @@ use Rattle.statement.specs.Layout.{
   name,
   objectName,
   columnTypeNo,
-  columnType,
   optionKindNo,
   optionKind,
   option,

@@ -1,6 +1,6 @@
 -- Whether bytes are a part of a CREATE TABLE: a test for each thing that the code looks at.
 -- Assumes nothing.
-use mathlib.Core.Path.{_≡_, refl, _∙_}
+use mathlib.Core.Path.{refl, _∙_}
 use mathlib.Core.List.{List, [], _∷_}
 use Prim.Native.Nat.{ℕ}
 use lib.ListN.{length, drop, getD}

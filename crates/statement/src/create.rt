@@ -101,7 +101,8 @@ fn is_key(s: &[u8]) -> bool
     if s.len() == 0 {
         return false;
     }
-    if s[0] >= 2 {
+    let mark = s[0];
+    if mark >= 2 {
         return false;
     }
     names::are_names(behind(s))

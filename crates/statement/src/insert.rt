@@ -45,14 +45,14 @@ pub fn are_rows(s: &[u8]) -> bool
         return false;
     }
     let n = bundle::parts(s, 2);
-    let mut i = 0;
+    let mut row = 0;
     let mut at = bundle::first(s, 2);
-    while i < n {
-        let end = bundle::next(s, 2, i, at);
+    while row < n {
+        let end = bundle::next(s, 2, row, at);
         if !are_expressions(&s[at..end]) {
             return false;
         }
-        i += 1;
+        row += 1;
         at = end;
     }
     true

@@ -19,8 +19,8 @@ areNames p = isThere (listOf 2 name .read p)
 returns : tie.Need-returns
 returns c = no-mark (key-marked (c .before .before .args .s .now)) (c .if1 .taken)
 
-shared-slice-read-if2 : tie.Need-shared-slice-read-if2
-shared-slice-read-if2 c = search needs
+shared-slice-read-mark : tie.Need-shared-slice-read-mark
+shared-slice-read-mark c = search needs
 
 returns-2 : tie.Need-returns-2
 returns-2 c = bad-mark (key-marked (c .before .before .before .before .args .s .now)) (c .if2 .taken)
@@ -39,4 +39,4 @@ returns-3 c =
 
 pub is-key-spec : {M : Type 1} → statement M
 is-key-spec =
-    tie.close (tie.spec returns shared-slice-read-if2 returns-2 behind-requires are-names-requires returns-3)
+    tie.close (tie.spec returns shared-slice-read-mark returns-2 behind-requires are-names-requires returns-3)

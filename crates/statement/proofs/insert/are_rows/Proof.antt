@@ -13,10 +13,10 @@ use Rattle.statement.proofs.insert.are_rows.Statement.{statement}
 use Rattle.statement.proofs.insert.are_rows.Tie as tie
 
 abbrev Inv-loop : tie.InvT-loop
-Inv-loop s n i₀ at₀ i at = Walk 2 (listOf 2 expression) s n i at
+Inv-loop s n row₀ at₀ row at = Walk 2 (listOf 2 expression) s n row at
 
 abbrev μ-loop : tie.MeasureT-loop
-μ-loop s n i₀ at₀ i at = n - i
+μ-loop s n row₀ at₀ row at = n - row
 
 is-bundle-requires : tie.Need-is-bundle-requires Inv-loop μ-loop
 is-bundle-requires c κs = search needs
@@ -54,8 +54,8 @@ returns-2 c =
     let b = c .before .before .before in
     walk-stop (b .before .before .loop .inv) (b .next .ensures) (c .before .are-expressions .ensures) (c .if2 .taken)
 
-add-i : tie.Need-add-i Inv-loop μ-loop
-add-i c = search needs
+add-row : tie.Need-add-row Inv-loop μ-loop
+add-row c = search needs
 
 loop-less : tie.Need-loop-less Inv-loop μ-loop
 loop-less c = search needs
@@ -85,7 +85,7 @@ are-rows-spec =
     part-are-expressions-end
     are-expressions-requires
     returns-2
-    add-i
+    add-row
     loop-less
     loop-again
     returns-3)
