@@ -5,3 +5,4 @@ pub mod Values
 pub mod Finds
 pub mod Repeats
 pub mod Sound
+pub mod Within

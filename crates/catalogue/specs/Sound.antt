@@ -107,11 +107,11 @@ pub key-empty : (s : List ℕ) {ids : List ColumnId} → Holds (listOf 2 (alone 
 key-empty s {ids} h = empty-is ids ∙ ap (λ (n : ℕ). eqb n 0) (list-count (alone columnId) s h)
 
 -- tests that are joined from the left
-abbrev chain : Bool → List Bool → Bool
+abbrev pub chain : Bool → List Bool → Bool
 chain a [] = a
 chain a (b ∷ ts) = chain (a && b) ts
 
-chain-is : (a : Bool) (ts : List Bool) → chain a ts ≡ all-of (a ∷ ts)
+pub chain-is : (a : Bool) (ts : List Bool) → chain a ts ≡ all-of (a ∷ ts)
 chain-is a [] = refl
 chain-is a (b ∷ ts) = chain-is (a && b) ts ∙ all-cons (a && b) ts ∙ and-assoc a b (all-of ts) ∙ ap (λ (t : Bool). a && t) (sym (all-cons b ts))
 

@@ -16,9 +16,11 @@ ghost use Rattle.rules.specs.Lists.{any, all, distinct};
 ghost use Rattle.rules.specs.Names.{canonical};
 ghost use Rattle.rules.specs.Tables.{ColumnSchema, TableSchema, Catalogue, sameId, isKeyColumn, soundTable, sound};
 ghost use Rattle.rules.specs.Lookup.{inKey};
+ghost use Rattle.rules.specs.Limits.{tableWithin, catalogueWithin};
 ghost use Rattle.catalogue.specs.Layout.{tableNumbers, table, catalogue};
 ghost use Rattle.catalogue.specs.Held.{Holds, Is};
 ghost use Rattle.catalogue.specs.Repeats.{Told, AllTold, alikeBy, firstRepeated};
+ghost use Rattle.catalogue.specs.Within.{columnWithin};
 ghost use Rattle.catalogue.specs.Sound.{hasId, keyColumn, KeyedBy};
 ghost use Rattle.catalogue.specs.Finds.{Lies, FindsTable, Stands, ReadsColumn, FindsColumn};
 
@@ -573,4 +575,82 @@ pub fn is_catalogue(s: &[u8]) -> bool
         return false;
     }
     is_sound(s)
+}
+
+// ---- limits
+
+fn is_column_within(c: &[u8]) -> bool
+    requires { ⌜ Is (columnSchema 2) (now c) ⌝ }
+    ensures { λ r. ⌜ ((v : ColumnSchema) → Holds (columnSchema 2) (now (c .entry)) v → r ≡ columnWithin v) ⌝ }
+{
+    let name = column_name(c);
+    name.len() <= 128
+}
+
+fn are_columns_within(s: &[u8]) -> bool
+    requires { ⌜ Is (listOf 2 (columnSchema 2)) (now s) ⌝ }
+    ensures { λ r. ⌜ ((cs : List ColumnSchema) → Holds (listOf 2 (columnSchema 2)) (now (s .entry)) cs → r ≡ all columnWithin cs) ⌝ }
+{
+    let n = bundle::parts(s, 2);
+    let mut at = bundle::first(s, 2);
+    let mut i = 0;
+    while i < n {
+        let end = bundle::next(s, 2, i, at);
+        if !is_column_within(&s[at..end]) {
+            return false;
+        }
+        at = end;
+        i += 1;
+    }
+    true
+}
+
+fn is_table_within(t: &[u8]) -> bool
+    requires { ⌜ Is table (now t) ⌝ }
+    ensures { λ r. ⌜ ((v : TableSchema) → Holds table (now (t .entry)) v → r ≡ tableWithin v) ⌝ }
+{
+    let name = table_name(t);
+    if 128 < name.len() {
+        return false;
+    }
+    let list = columns(t);
+    if 64 < bundle::parts(list, 2) {
+        return false;
+    }
+    if !are_columns_within(list) {
+        return false;
+    }
+    bundle::parts(key(t), 2) <= 64
+}
+
+fn are_tables_within(s: &[u8]) -> bool
+    requires { ⌜ Is (listOf 2 table) (now s) ⌝ }
+    ensures { λ r. ⌜ ((ts : Catalogue) → Holds (listOf 2 table) (now (s .entry)) ts → r ≡ all tableWithin ts) ⌝ }
+{
+    let n = bundle::parts(s, 2);
+    let mut at = bundle::first(s, 2);
+    let mut i = 0;
+    while i < n {
+        let end = bundle::next(s, 2, i, at);
+        if !is_table_within(&s[at..end]) {
+            return false;
+        }
+        at = end;
+        i += 1;
+    }
+    true
+}
+
+// Whether a catalogue is within the top sizes.
+pub fn catalogue_within(s: &[u8]) -> bool
+    requires { ⌜ Is catalogue (now s) ⌝ }
+    ensures { λ r. ⌜ ((v : Catalogue) → Holds catalogue (now (s .entry)) v → r ≡ catalogueWithin (length (now (s .entry))) v) ⌝ }
+{
+    if 65536 < s.len() {
+        return false;
+    }
+    if 256 < bundle::parts(s, 2) {
+        return false;
+    }
+    are_tables_within(s)
 }
