@@ -9,12 +9,21 @@ pub struct Told {
 }
 
 pub fn damaged() -> Told {
-    Told { is_whole: false, answer: 0, has_text: false, differs: false }
+    Told {
+        is_whole: false,
+        answer: 0,
+        has_text: false,
+        differs: false,
+    }
 }
 
 // The answer is 5 exactly if the bytes are no statement.
 fn statement_differs(answer: u8, s: &[u8]) -> bool {
-    if statement::is_statement(s) { answer == 5 } else { answer != 5 }
+    if statement::is_statement(s) {
+        answer == 5
+    } else {
+        answer != 5
+    }
 }
 
 // Whether the raw text, a statement's first part, is SHOW TRANSACTIONS.
@@ -35,18 +44,37 @@ fn is_bound_show(b: &[u8]) -> bool {
 
 // Of statements that bind, the raw text alone tells that kind.
 fn text_differs(s: &[u8], b: &[u8]) -> bool {
-    if is_show(s) { !is_bound_show(b) } else { is_bound_show(b) }
+    if is_show(s) {
+        !is_bound_show(b)
+    } else {
+        is_bound_show(b)
+    }
 }
 
 fn held(answer: u8, s: &[u8], b: &[u8]) -> Told {
     let differs = statement_differs(answer, s);
     if answer != 0 {
-        return Told { is_whole: true, answer: answer, has_text: false, differs: differs };
+        return Told {
+            is_whole: true,
+            answer: answer,
+            has_text: false,
+            differs: differs,
+        };
     }
     if differs {
-        return Told { is_whole: true, answer: answer, has_text: true, differs: true };
+        return Told {
+            is_whole: true,
+            answer: answer,
+            has_text: true,
+            differs: true,
+        };
     }
-    Told { is_whole: true, answer: answer, has_text: true, differs: text_differs(s, b) }
+    Told {
+        is_whole: true,
+        answer: answer,
+        has_text: true,
+        differs: text_differs(s, b),
+    }
 }
 
 // The statement's bytes come first, and the bound statement's from `from` on.
