@@ -29,11 +29,13 @@ fn say_difference(case: u64, answer: u8) {
     say(b"\n");
 }
 
-fn say_counts(cases: u64, texts: u64, differences: u64) {
+fn say_counts(cases: u64, catalogues: u64, texts: u64, differences: u64) {
     say_number(cases);
     say(b" replayed: ");
     say_number(cases);
     say(b" statements told, ");
+    say_number(catalogues);
+    say(b" catalogues told, ");
     say_number(texts);
     say(b" raw texts told, ");
     say_number(differences);
@@ -53,6 +55,7 @@ fn replay(fd: i32, cases: u64) {
         return;
     }
     let mut done: u64 = 0;
+    let mut catalogues: u64 = 0;
     let mut texts: u64 = 0;
     let mut differences: u64 = 0;
     while done < cases {
@@ -64,6 +67,7 @@ fn replay(fd: i32, cases: u64) {
         if told.differs {
             say_difference(done, told.answer);
         }
+        catalogues += one(told.has_catalogue);
         texts += one(told.has_text);
         differences += one(told.differs);
         done += 1;
@@ -72,7 +76,7 @@ fn replay(fd: i32, cases: u64) {
         say_damage(done);
         return;
     }
-    say_counts(cases, texts, differences);
+    say_counts(cases, catalogues, texts, differences);
 }
 
 fn main() {

@@ -4,6 +4,7 @@
 pub struct Told {
     pub is_whole: bool,
     pub answer: u8,
+    pub has_catalogue: bool,
     pub has_text: bool,
     pub differs: bool,
 }
@@ -12,6 +13,7 @@ pub fn damaged() -> Told {
     Told {
         is_whole: false,
         answer: 0,
+        has_catalogue: false,
         has_text: false,
         differs: false,
     }
@@ -24,6 +26,25 @@ fn statement_differs(answer: u8, s: &[u8]) -> bool {
     } else {
         answer != 5
     }
+}
+
+// Of statements, the answer is 6 exactly if the other bytes are no catalogue.
+fn catalogue_differs(answer: u8, c: &[u8]) -> bool {
+    if catalogue::is_catalogue(c) {
+        answer == 6
+    } else {
+        answer != 6
+    }
+}
+
+fn images_differ(answer: u8, s: &[u8], c: &[u8]) -> bool {
+    if statement_differs(answer, s) {
+        return true;
+    }
+    if answer == 5 {
+        return false;
+    }
+    catalogue_differs(answer, c)
 }
 
 // Whether the raw text, a statement's first part, is SHOW TRANSACTIONS.
@@ -51,40 +72,35 @@ fn text_differs(s: &[u8], b: &[u8]) -> bool {
     }
 }
 
-fn held(answer: u8, s: &[u8], b: &[u8]) -> Told {
-    let differs = statement_differs(answer, s);
-    if answer != 0 {
-        return Told {
-            is_whole: true,
-            answer: answer,
-            has_text: false,
-            differs: differs,
-        };
-    }
-    if differs {
-        return Told {
-            is_whole: true,
-            answer: answer,
-            has_text: true,
-            differs: true,
-        };
+fn held(answer: u8, s: &[u8], c: &[u8], b: &[u8]) -> Told {
+    let has_catalogue = answer != 5;
+    let has_text = answer == 0;
+    let mut differs = images_differ(answer, s, c);
+    if has_text && !differs {
+        differs = text_differs(s, b);
     }
     Told {
         is_whole: true,
         answer: answer,
-        has_text: true,
-        differs: text_differs(s, b),
+        has_catalogue: has_catalogue,
+        has_text: has_text,
+        differs: differs,
     }
 }
 
-// The statement's bytes come first, and the bound statement's from `from` on.
+// The statement's bytes come first, then the catalogue's, and from `from` on the bound statement's.
 pub fn compared(answer: u8, bytes: &[u8], statement: usize, from: usize) -> Told {
-    if bytes.len() < statement {
+    if from < statement {
         return damaged();
     }
     if bytes.len() < from {
         return damaged();
     }
     let start = 0;
-    held(answer, &bytes[start..statement], &bytes[from..])
+    held(
+        answer,
+        &bytes[start..statement],
+        &bytes[statement..from],
+        &bytes[from..],
+    )
 }
