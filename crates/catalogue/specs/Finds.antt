@@ -1,10 +1,10 @@
 -- What a lookup answers, by the answer of the rules.
 -- Assumes nothing.
-use mathlib.Core.Path.{_≡_, refl, sym, ap, ap₂, _∙_, subst}
+use mathlib.Core.Path.{_≡_, sym, ap, ap₂, _∙_, subst}
 use mathlib.Core.Bool.{Bool, true, false}
 use mathlib.Core.Option.{Option, none, some}
 use mathlib.Core.List.{List, _∷_}
-use Prim.Native.Nat.{ℕ, suc, _+_, _-_, _≤_, _<_}
+use Prim.Native.Nat.{ℕ, suc, _+_, _-_, _≤_}
 use native.Mathlib.Numerals.{add-one}
 use native.Mathlib.Omega.{arith}
 use lib.ListN.{length, take, drop, length-drop}
@@ -15,9 +15,9 @@ use Rattle.bundle.specs.Laws.{drop-take}
 use Rattle.value.specs.Parts.{columnSchema}
 use Rattle.rules.specs.declared.Ordinal.{Ordinal}
 use Rattle.rules.specs.Lists.{Text, same, find, any}
-use Rattle.rules.specs.Tables.{ColumnSchema, TableSchema, Catalogue, tableByName, tableNamed}
+use Rattle.rules.specs.Tables.{ColumnSchema, TableSchema, Catalogue, tableByName}
 use Rattle.rules.specs.Bound.{BoundColumnRef}
-use Rattle.rules.specs.Lookup.{boundColumn, boundColumnsFrom, boundColumns, refNamed, columnByName}
+use Rattle.rules.specs.Lookup.{boundColumn, boundColumnsFrom, refNamed, columnByName}
 use Rattle.catalogue.specs.declared.Found.{Found}
 use Rattle.catalogue.specs.declared.Found.the-variants as found
 use Rattle.catalogue.specs.declared.Standing.{Standing}

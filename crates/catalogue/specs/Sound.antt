@@ -3,11 +3,10 @@
 use mathlib.Core.Path.{_≡_, refl, sym, ap, ap₂, _∙_}
 use mathlib.Core.Bool.{Bool, true, false, not, _&&_, and-assoc}
 use mathlib.Core.List.{List, [], _∷_}
-use Prim.Native.Nat.{ℕ, suc}
+use Prim.Native.Nat.{ℕ}
 use native.Mathlib.Omega.{arith}
 use lib.Dec.{eqb, eqb·suc-zero}
-use lib.ListN.{length, take}
-use Rattle.wire.specs.Le.{num}
+use lib.ListN.{length}
 use Rattle.codec.specs.Layout.{alone, listOf}
 use Rattle.bundle.specs.Bundle.{partsOf}
 use Rattle.bundle.specs.Decides.{Decides, all-of, all-cons}
@@ -19,7 +18,7 @@ use Rattle.rules.specs.Tables.{ColumnSchema, TableSchema, Catalogue, sameId, is
 use Rattle.catalogue.specs.declared.By.the-variants as by
 use Rattle.catalogue.specs.Layout.{table}
 use Rattle.catalogue.specs.Held.{Holds, Is, list-count}
-use Rattle.catalogue.specs.Values.{idOf, tableIdOf, numbersOf, nameOf, id-held, id-wide, column-held, column-shape, table-held, table-shape}
+use Rattle.catalogue.specs.Values.{id-held, id-wide, column-held, column-shape, table-held, table-shape}
 use Rattle.catalogue.specs.Repeats.{alikeBy, AllTold, distinct-held, all-told}
 
 -- a column's id is not 0

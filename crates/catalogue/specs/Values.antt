@@ -3,7 +3,7 @@
 use mathlib.Core.Path.{_≡_, refl, sym, ap, _∙_}
 use mathlib.Core.Bool.{Bool, true, false, cond}
 use mathlib.Core.Option.{Option, none, some, Option·none-ne-some, Option·some-injective}
-use mathlib.Core.List.{List, [], _∷_}
+use mathlib.Core.List.{List, []}
 use Prim.Native.Nat.{ℕ, zero, suc, _+_}
 use lib.Dec.{eqb}
 use lib.ListN.{length, getD, getElem?, take, drop}
@@ -15,7 +15,7 @@ use Rattle.codec.specs.Layout.{text, alone, bools, listOf}
 use Rattle.bundle.specs.Bundle.{partsOf, IsRecord}
 use Rattle.bundle.specs.Laws.{via-record-value, via-record-there}
 use Rattle.bundle.specs.Fields.{Spot, codeSpot, bothSpot, bothLook, field-value}
-use Rattle.value.specs.Parts.{columnId, ColumnNumbers, columnNumbers, columnSchema}
+use Rattle.value.specs.Parts.{columnId, columnSchema}
 use Rattle.rules.specs.declared.TableId.{TableId}
 use Rattle.rules.specs.declared.ColumnId.{ColumnId}
 use Rattle.rules.specs.declared.DataType.{DataType}
