@@ -2,7 +2,6 @@ pub mod Bundle
 pub mod Decides
 pub mod Laws
 pub mod Fields
-pub mod Walks
 pub mod Heads
 pub mod Values
 pub mod Cases

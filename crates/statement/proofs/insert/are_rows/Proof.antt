@@ -2,18 +2,18 @@
 -- Assumes nothing.
 use borrow.Author.Needs.{needs}
 use native.Mathlib.Omega.{arith}
-use mathlib.Core.Path.{sym}
+use mathlib.Core.Path.{refl, sym}
 use Prim.Native.Nat.{_-_}
 use Rattle.bundle.specs.Decides.{failed, passed}
-use Rattle.bundle.specs.Laws.{list-not}
-use Rattle.bundle.specs.Walks.{Walk, start, ahead, walk-stop, walk-on, walk-end}
+use Rattle.bundle.specs.Laws.{list-not, Walk, walk, walk-stop, walk-on, walk-end}
+use Rattle.bundle.specs.Heads.{isA}
 use Rattle.codec.specs.Layout.{listOf}
 use Rattle.expression.specs.Expression.{expression}
 use Rattle.statement.proofs.insert.are_rows.Statement.{statement}
 use Rattle.statement.proofs.insert.are_rows.Tie as tie
 
 abbrev Inv-loop : tie.InvT-loop
-Inv-loop s n row₀ at₀ row at = Walk 2 (listOf 2 expression) s n row at
+Inv-loop s n row₀ at₀ row at = Walk 2 (isA (listOf 2 expression)) s (isA (listOf 2 (listOf 2 expression)) s) n row at
 
 abbrev μ-loop : tie.MeasureT-loop
 μ-loop s n row₀ at₀ row at = n - row
@@ -32,10 +32,11 @@ first-requires c κs = (omega arith, record { there = passed (c .before .before 
 
 loop-holds : tie.Need-loop-holds Inv-loop μ-loop
 loop-holds c =
-    start (listOf 2 expression) (record { there = passed (c .before .before .before .is-bundle .ensures) (c .before .before .if1 .left) }) (c .before .parts .ensures) (c .first .ensures)
+    walk (listOf 2 expression) (isA (listOf 2 expression)) (λ p. refl) (passed (c .before .before .before .is-bundle .ensures) (c .before .before .if1 .left))
+    (c .before .parts .ensures) (c .first .ensures)
 
 next-requires : tie.Need-next-requires Inv-loop μ-loop
-next-requires c κs = let k = c .before .loop .inv in (omega arith, k .bundle, k .here, ahead k (c .loop-test .taken))
+next-requires c κs = search needs
 
 sub-are-expressions : tie.Need-sub-are-expressions Inv-loop μ-loop
 sub-are-expressions c = search needs
@@ -52,7 +53,7 @@ are-expressions-requires c κs = search needs
 returns-2 : tie.Need-returns-2 Inv-loop μ-loop
 returns-2 c =
     let b = c .before .before .before in
-    walk-stop (b .before .before .loop .inv) (b .next .ensures) (c .before .are-expressions .ensures) (c .if2 .taken)
+    walk-stop (b .before .before .loop .inv) (b .next .ensures) (failed (c .before .are-expressions .ensures) (c .if2 .taken))
 
 add-row : tie.Need-add-row Inv-loop μ-loop
 add-row c = search needs
@@ -63,7 +64,7 @@ loop-less c = search needs
 loop-again : tie.Need-loop-again Inv-loop μ-loop
 loop-again c =
     let b = c .before .before .before in
-    walk-on (b .before .before .loop .inv) (b .next .ensures) (c .before .are-expressions .ensures) (c .if2 .left)
+    walk-on (b .before .before .loop .inv) (b .next .ensures) (passed (c .before .are-expressions .ensures) (c .if2 .left))
 
 returns-3 : tie.Need-returns-3 Inv-loop μ-loop
 returns-3 c = walk-end (c .before .loop .inv) (c .loop-test .left)
