@@ -5,3 +5,4 @@ pub mod Fields
 pub mod Heads
 pub mod Values
 pub mod Cases
+pub mod Held

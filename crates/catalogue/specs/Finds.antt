@@ -26,7 +26,7 @@ use Rattle.catalogue.specs.declared.Column.{Column}
 use Rattle.catalogue.specs.declared.Named.{Named}
 use Rattle.catalogue.specs.declared.Named.the-variants as answer
 use Rattle.catalogue.specs.Layout.{table}
-use Rattle.catalogue.specs.Held.{Holds}
+use Rattle.bundle.specs.Held.{Holds}
 
 -- x lies in s from a to e
 pub record Lies (s : List ℕ) (a e : ℕ) (x : List ℕ) : Type 0 where

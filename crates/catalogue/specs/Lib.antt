@@ -1,6 +1,5 @@
 pub mod Layout
 pub mod Shapes
-pub mod Held
 pub mod Values
 pub mod Finds
 pub mod Repeats

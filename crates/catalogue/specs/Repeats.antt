@@ -22,7 +22,7 @@ use Rattle.catalogue.specs.declared.Repeat.{Repeat}
 use Rattle.catalogue.specs.declared.Repeat.the-variants.{Nowhere, At}
 use Rattle.catalogue.specs.declared.By.{By}
 use Rattle.catalogue.specs.declared.By.the-variants as by
-use Rattle.catalogue.specs.Held.{Holds, Is, is-held, held, Along}
+use Rattle.bundle.specs.Held.{Holds, Is, is-held, held, Along}
 use Rattle.catalogue.specs.Values.{numbersOf, nameOf}
 use Rattle.catalogue.specs.Finds.{any-hit, any-miss}
 

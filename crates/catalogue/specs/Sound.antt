@@ -17,7 +17,7 @@ use Rattle.rules.specs.Lists.{same, isEmpty, all, distinct}
 use Rattle.rules.specs.Tables.{ColumnSchema, TableSchema, Catalogue, sameId, isKeyColumn, soundTable, sound}
 use Rattle.catalogue.specs.declared.By.the-variants as by
 use Rattle.catalogue.specs.Layout.{table}
-use Rattle.catalogue.specs.Held.{Holds, Is, list-count}
+use Rattle.bundle.specs.Held.{Holds, Is, list-count}
 use Rattle.catalogue.specs.Values.{id-held, id-wide, column-held, column-shape, table-held, table-shape}
 use Rattle.catalogue.specs.Repeats.{alikeBy, AllTold, distinct-held, all-told}
 

@@ -23,7 +23,7 @@ use Rattle.rules.specs.declared.DataType.the-variants as data-type
 use Rattle.rules.specs.Tables.{ColumnSchema, TableSchema}
 use Rattle.catalogue.specs.Layout.{TableNumbers, table}
 use Rattle.catalogue.specs.Shapes.{dataTypes, columnIdSpot, columnNumbersSpot, columnParts, tableNumbersSpot, tableParts}
-use Rattle.catalogue.specs.Held.{Holds, Is, is-held, held}
+use Rattle.bundle.specs.Held.{Holds, Is, is-held, held}
 
 -- a text holds itself
 text-value : {s v : List ℕ} → Holds text s v → v ≡ s

@@ -14,7 +14,7 @@ use Rattle.rules.specs.Lists.{all}
 use Rattle.rules.specs.Tables.{ColumnSchema, TableSchema, Catalogue, sound}
 use Rattle.rules.specs.Limits.{atMost, nameWithin, tableWithin, catalogueWithin}
 use Rattle.catalogue.specs.Layout.{table, catalogue}
-use Rattle.catalogue.specs.Held.{Holds, Is, is-held, held, list-count}
+use Rattle.bundle.specs.Held.{Holds, Is, is-held, held, list-count}
 use Rattle.catalogue.specs.Sound.{chain-is}
 
 abbrev pub columnWithin : ColumnSchema → Bool

@@ -18,7 +18,7 @@ ghost use Rattle.rules.specs.Tables.{ColumnSchema, TableSchema, Catalogue, same
 ghost use Rattle.rules.specs.Lookup.{inKey};
 ghost use Rattle.rules.specs.Limits.{tableWithin, catalogueWithin};
 ghost use Rattle.catalogue.specs.Layout.{table, catalogue};
-ghost use Rattle.catalogue.specs.Held.{Holds, Is};
+ghost use Rattle.bundle.specs.Held.{Holds, Is};
 ghost use Rattle.catalogue.specs.Repeats.{Told, AllTold, alikeBy, firstRepeated};
 ghost use Rattle.catalogue.specs.Within.{columnWithin};
 ghost use Rattle.catalogue.specs.Sound.{hasId, keyColumn, KeyedBy};

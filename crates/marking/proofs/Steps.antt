@@ -26,7 +26,7 @@ use Rattle.expression.specs.Place.{Node, nodeAt, leafKind, leafOf, unKind, unOf
 use Rattle.expression.specs.Heads.{leaf-range, un-range, bin-range, un-of}
 use Rattle.expression.specs.Trees.{kindOf}
 use Rattle.expression.specs.Laws.{leaf-at, bin-at}
-use Rattle.catalogue.specs.Held.{Holds}
+use Rattle.bundle.specs.Held.{Holds}
 use Rattle.marking.specs.declared.Marked.{Marked}
 use Rattle.marking.specs.declared.Marked.the-variants as marked
 use Rattle.marking.specs.Told.{told, verdictTold, leafTold, after}

@@ -12,7 +12,7 @@ use Rattle.rules.specs.Theorems.Answered.{mapped}
 use Rattle.rules.specs.Theorems.Marked.{bind-marks}
 use Rattle.catalogue.specs.Layout.{table}
 use Rattle.expression.specs.Place.{nodeCount, nodeAt, Root, HasNode}
-use Rattle.catalogue.specs.Held.{Is, Holds}
+use Rattle.bundle.specs.Held.{Is, Holds}
 use Rattle.marking.specs.declared.Marked.{Marked}
 use Rattle.marking.specs.Told.{told}
 

@@ -21,7 +21,7 @@ ghost use Rattle.rules.specs.Names.{canonical};
 ghost use Rattle.rules.specs.Numbers.{integerLiteral};
 ghost use Rattle.rules.specs.Tables.{TableSchema};
 ghost use Rattle.catalogue.specs.Layout.{table};
-ghost use Rattle.catalogue.specs.Held.{Is, Holds};
+ghost use Rattle.bundle.specs.Held.{Is, Holds};
 ghost use Rattle.marking.specs.declared.Marked.the-variants as marked;
 ghost use Rattle.marking.specs.Told.{refusedWith, leafTold};
 ghost use Rattle.marking.specs.Marks.{Markable, Marks};

@@ -44,7 +44,7 @@ use Rattle.statement.specs.Layout.{
   create,
 }
 use Rattle.statement.specs.CreateShapes.{columnTypeEnum, optionKindEnum, optionSpot, columnDefinitionParts, createParts}
-use Rattle.statement.specs.Held.{Is, Holds, Shows}
+use Rattle.bundle.specs.Held.{Is, Holds, Shows}
 
 -- ---- an option
 

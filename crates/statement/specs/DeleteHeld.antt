@@ -17,7 +17,7 @@ use Rattle.bundle.specs.Cases.{ChoiceHas, choice-has}
 use Rattle.rules.specs.Statements.{DeleteFrom, Delete}
 use Rattle.statement.specs.Layout.{condition, deleteFromCases, whichDeleteFrom, delete-from-made, deleteFrom, deletion}
 use Rattle.statement.specs.Shapes.{deleteParts}
-use Rattle.statement.specs.Held.{Is, Holds}
+use Rattle.bundle.specs.Held.{Is, Holds}
 
 -- 0 without the keyword FROM, 1 another number of tables than one, 2 the table
 abbrev pub deleteFromNo : DeleteFrom → ℕ

@@ -39,7 +39,7 @@ use Rattle.statement.specs.Layout.{
   insertion,
 }
 use Rattle.statement.specs.InsertShapes.{valuesForm, insertParts}
-use Rattle.statement.specs.Held.{Is, Holds, Shows}
+use Rattle.bundle.specs.Held.{Is, Holds, Shows}
 
 -- ---- the body of a source
 

@@ -2,7 +2,6 @@ pub mod Layout
 pub mod Shapes
 pub mod CreateShapes
 pub mod InsertShapes
-pub mod Held
 pub mod CreateHeld
 pub mod InsertHeld
 pub mod NamesHeld

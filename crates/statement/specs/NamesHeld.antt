@@ -27,7 +27,7 @@ use Rattle.statement.specs.Layout.{
   relation,
   tableWithJoins,
 }
-use Rattle.statement.specs.Held.{Is, Holds, Shows}
+use Rattle.bundle.specs.Held.{Is, Holds, Shows}
 
 -- ---- names
 

@@ -33,7 +33,7 @@ use Rattle.statement.specs.Layout.{
   selection,
 }
 use Rattle.statement.specs.Shapes.{selectParts}
-use Rattle.statement.specs.Held.{Is, Holds}
+use Rattle.bundle.specs.Held.{Is, Holds}
 
 -- ---- sums, by the places of their cases
 

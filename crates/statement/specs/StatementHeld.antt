@@ -19,7 +19,7 @@ use Rattle.rules.specs.Statements.{Kind, createTable, insert, query, update, de
 use Rattle.statement.specs.Layout.{create, insertion, selection, updating, deletion, kindCases, whichKind, kind-made, kind, statement}
 use Rattle.statement.specs.Shapes.{statementParts}
 use Rattle.statement.specs.NamesHeld.{text-is-all}
-use Rattle.statement.specs.Held.{Is, Holds}
+use Rattle.bundle.specs.Held.{Is, Holds}
 
 -- ---- the kind
 

@@ -18,7 +18,7 @@ use Rattle.rules.specs.Statements.{Target, Assignment, Update}
 use Rattle.expression.specs.Expression.{expression}
 use Rattle.statement.specs.Layout.{tableWithJoins, condition, targetCases, whichTarget, target-made, assignmentTarget, assignment, updating}
 use Rattle.statement.specs.Shapes.{assignmentParts, updateParts}
-use Rattle.statement.specs.Held.{Is, Holds}
+use Rattle.bundle.specs.Held.{Is, Holds}
 
 -- ---- an assignment
 

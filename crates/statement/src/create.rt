@@ -9,7 +9,7 @@ ghost use Rattle.codec.specs.Layout.{alone, mark, headed, listOf};
 ghost use Rattle.bundle.specs.Bundle.{isThere};
 ghost use Rattle.rules.specs.Statements.{Name, ColumnOption, ColumnDefinition, Constraint, primaryKey, CreateTable};
 ghost use Rattle.statement.specs.Layout.{name, objectName, option, optionKindNo, columnType, columnTypeNo, columnDefinition, constraint, create};
-ghost use Rattle.statement.specs.Held.{Is, Holds, Shows};
+ghost use Rattle.bundle.specs.Held.{Is, Holds, Shows};
 ghost use Rattle.statement.specs.CreateHeld.{isKey};
 
 // A mark and a kind.

@@ -8,7 +8,7 @@ ghost use mathlib.Core.Path.{_≡_};
 ghost use Rattle.bundle.specs.Bundle.{isThere};
 ghost use Rattle.statement.specs.Layout.{tableWithJoins, condition, deleteFrom, deletion};
 ghost use Rattle.rules.specs.Statements.{TableWithJoins, one, DeleteFrom, from, Delete};
-ghost use Rattle.statement.specs.Held.{Is, Holds};
+ghost use Rattle.bundle.specs.Held.{Is, Holds};
 ghost use Rattle.statement.specs.DeleteHeld.{deleteFromNo};
 
 // Code 0: without the keyword FROM. Code 1: another number of tables than one. Neither holds anything. Code 2: the table.

@@ -14,7 +14,7 @@ ghost use Rattle.expression.specs.Expression.{expression};
 ghost use Rattle.rules.specs.Statements.{Expr, SourceBody, values, Source, Insert};
 ghost use Rattle.statement.specs.Layout.{name, objectName, sourceBody, source, insertion};
 ghost use Rattle.statement.specs.InsertShapes.{valuesForm};
-ghost use Rattle.statement.specs.Held.{Is, Holds, Shows};
+ghost use Rattle.bundle.specs.Held.{Is, Holds, Shows};
 ghost use Rattle.statement.specs.InsertHeld.{isValues};
 
 // One row.

@@ -17,7 +17,7 @@ ghost use Rattle.statement.specs.Layout.{kind, statement};
 ghost use mathlib.Core.Bool.{Bool};
 ghost use Rattle.codec.specs.Layout.{mark, both, alone};
 ghost use Rattle.rules.specs.Statements.{Statement};
-ghost use Rattle.statement.specs.Held.{Is, Holds};
+ghost use Rattle.bundle.specs.Held.{Is, Holds};
 ghost use Rattle.statement.specs.StatementHeld.{kindNo, KindHolds};
 
 // One byte, the kind, and what follows by kind.

@@ -5,7 +5,7 @@ ghost use Rattle.codec.specs.Layout.{listOf};
 ghost use Rattle.bundle.specs.Bundle.{isThere};
 ghost use Rattle.statement.specs.Layout.{name, objectName};
 ghost use Rattle.rules.specs.Statements.{Name, ObjectName, plain};
-ghost use Rattle.statement.specs.Held.{Is, Holds};
+ghost use Rattle.bundle.specs.Held.{Is, Holds};
 ghost use Rattle.statement.specs.NamesHeld.{objectNameNo};
 
 // A mark, whether the name is quoted, and the name's text.

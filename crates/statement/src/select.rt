@@ -10,7 +10,7 @@ ghost use Rattle.bundle.specs.Bundle.{isThere};
 ghost use Rattle.statement.specs.Layout.{name, tableWithJoins, item, selectFrom, condition, select, queryBody, selection};
 ghost use mathlib.Core.Option.{Option};
 ghost use Rattle.rules.specs.Statements.{Name, Expr, TableWithJoins, Item, column, From, one, Select, QueryBody, plainSelect, Query};
-ghost use Rattle.statement.specs.Held.{Is, Holds};
+ghost use Rattle.bundle.specs.Held.{Is, Holds};
 ghost use Rattle.statement.specs.SelectHeld.{itemNo, fromNo, bodyNo};
 
 // Code 0: any other item. Code 1: `*`. Code 2: a column's name.

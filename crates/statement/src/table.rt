@@ -7,7 +7,7 @@ ghost use Rattle.statement.specs.Layout.{objectName, relation, tableWith
 ghost use Rattle.statement.specs.Shapes.{directForm};
 ghost use Rattle.rules.specs.Statements.{ObjectName, TableWithJoins, Relation, direct};
 ghost use mathlib.Core.Bool.{Bool};
-ghost use Rattle.statement.specs.Held.{Is, Holds, Shows};
+ghost use Rattle.bundle.specs.Held.{Is, Holds, Shows};
 ghost use Rattle.statement.specs.NamesHeld.{relationNo, isDirect};
 
 // What code 1 of a relation has behind it: a mark and an object name.

@@ -11,7 +11,7 @@ ghost use Rattle.bundle.specs.Bundle.{isThere};
 ghost use Rattle.statement.specs.Layout.{objectName, tableWithJoins, condition, assignmentTarget, assignment, updating};
 ghost use Rattle.expression.specs.Expression.{expression};
 ghost use Rattle.rules.specs.Statements.{ObjectName, Target, target, Assignment, Update};
-ghost use Rattle.statement.specs.Held.{Is, Holds};
+ghost use Rattle.bundle.specs.Held.{Is, Holds};
 ghost use Rattle.statement.specs.UpdateHeld.{targetNo};
 
 // Code 0: a tuple, which is not held. Code 1: an object name.

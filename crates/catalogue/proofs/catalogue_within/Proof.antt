@@ -1,7 +1,7 @@
 -- `catalogue::catalogue_within` meets its contract.
 -- Assumes nothing.
 use Rattle.bundle.specs.Decides.{Decides, stop, on, last}
-use Rattle.catalogue.specs.Held.{Holds, list-bundle}
+use Rattle.bundle.specs.Held.{Holds, list-bundle}
 use Rattle.catalogue.specs.Layout.{table, catalogue}
 use Rattle.catalogue.specs.Within.{count-within, within-decided, catalogue-tables, catalogue-list}
 use Rattle.rules.specs.Limits.{atMost, tableWithin, catalogueWithin}

@@ -2,7 +2,7 @@
 -- Assumes nothing.
 use Prim.Native.Nat.{ℕ, _+_, _-_}
 use Rattle.catalogue.specs.Finds.{boundFrom, bound-hit, bound-miss}
-use Rattle.catalogue.specs.Held.{Holds, list-bundle, Along, along, along-on, turn, part-is, Left, left, left-turn, left-on, left-end}
+use Rattle.bundle.specs.Held.{Holds, list-bundle, Along, along, along-on, turn, part-is, Left, left, left-turn, left-on, left-end}
 use Rattle.names.specs.Compared.{named}
 use Rattle.rules.specs.Lists.{Text, same}
 use Rattle.rules.specs.Lookup.{boundColumnsFrom}

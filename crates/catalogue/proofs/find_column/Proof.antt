@@ -3,7 +3,7 @@
 use Prim.Native.Nat.{ℕ, _-_, _≤_}
 use Rattle.bundle.specs.Bundle.{isThere}
 use Rattle.catalogue.specs.Finds.{ColumnStands, Stands, bound-column}
-use Rattle.catalogue.specs.Held.{Holds, Is, is-held, held}
+use Rattle.bundle.specs.Held.{Holds, Is, is-held, held}
 use Rattle.catalogue.specs.Layout.{table}
 use Rattle.catalogue.specs.Values.{table-shape, table-held}
 use Rattle.codec.specs.Layout.{listOf}

@@ -2,7 +2,7 @@
 -- Assumes nothing.
 use Prim.Native.Nat.{ℕ, _+_, _-_, _<_, _≤_}
 use Rattle.bundle.specs.Bundle.{partsOf}
-use Rattle.catalogue.specs.Held.{Along, along-on}
+use Rattle.bundle.specs.Held.{Along, along-on}
 use Rattle.catalogue.specs.Repeats.{alikeBy, firstRepeated, repeat-hit, repeat-pass, repeat-end, step-cons, told-part, any-found, any-on, any-over}
 use Rattle.catalogue.specs.declared.Repeat.the-variants.{Nowhere}
 use Rattle.rules.specs.Lists.{any}

@@ -2,7 +2,7 @@
 -- Assumes nothing.
 use Prim.Native.Nat.{ℕ, _-_}
 use Rattle.catalogue.specs.Finds.{any-hit, any-miss}
-use Rattle.catalogue.specs.Held.{Holds, list-bundle, Along, along, along-on, part-is, Left, left, left-stop, left-on, left-end}
+use Rattle.bundle.specs.Held.{Holds, list-bundle, Along, along, along-on, part-is, Left, left, left-stop, left-on, left-end}
 use Rattle.catalogue.specs.Values.{id-wide, id-held}
 use Rattle.codec.specs.Layout.{alone}
 use Rattle.rules.specs.Lists.{any}

@@ -1,6 +1,6 @@
 -- `catalogue::in_key` meets its contract.
 -- Assumes nothing.
-use Rattle.catalogue.specs.Held.{is-held, held}
+use Rattle.bundle.specs.Held.{is-held, held}
 use Rattle.codec.specs.Layout.{alone, listOf}
 use Rattle.rules.specs.Lookup.{inKey}
 use Rattle.value.specs.Parts.{columnId}

@@ -2,7 +2,7 @@
 -- Assumes nothing.
 use Rattle.bundle.specs.Decides.{failed, passed}
 use Rattle.bundle.specs.Fields.{checked-not, checked-on}
-use Rattle.catalogue.specs.Held.{Is, held}
+use Rattle.bundle.specs.Held.{Is, held}
 use Rattle.catalogue.specs.Layout.{table, catalogue}
 use Rattle.codec.specs.Layout.{listOf}
 use Rattle.rules.specs.Tables.{sound}

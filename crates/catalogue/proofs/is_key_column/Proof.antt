@@ -2,7 +2,7 @@
 -- Assumes nothing.
 use Prim.Native.Nat.{_-_}
 use Rattle.catalogue.specs.Finds.{any-hit, any-miss}
-use Rattle.catalogue.specs.Held.{list-bundle, Along, along, along-on, part-is, Left, left, left-stop, left-on, left-end}
+use Rattle.bundle.specs.Held.{list-bundle, Along, along, along-on, part-is, Left, left, left-stop, left-on, left-end}
 use Rattle.catalogue.specs.Sound.{keyColumn}
 use Rattle.rules.specs.Lists.{any}
 use Rattle.value.specs.Parts.{columnSchema}

@@ -1,7 +1,7 @@
 -- `catalogue::is_sound` meets its contract.
 -- Assumes nothing.
 use Rattle.bundle.specs.Decides.{stop, on, last, failed, passed}
-use Rattle.catalogue.specs.Held.{list-bundle}
+use Rattle.bundle.specs.Held.{list-bundle}
 use Rattle.catalogue.specs.Layout.{table}
 use Rattle.catalogue.specs.Sound.{table-names, table-ids, tables-named, tables-told, sound-decided}
 use borrow.Author.Needs.{needs}

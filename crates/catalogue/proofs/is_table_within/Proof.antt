@@ -2,7 +2,7 @@
 -- Assumes nothing.
 use Prim.Native.Nat.{ℕ}
 use Rattle.bundle.specs.Decides.{Decides, stop, on, last, failed, passed}
-use Rattle.catalogue.specs.Held.{Holds, Is, is-held, held, list-bundle}
+use Rattle.bundle.specs.Held.{Holds, Is, is-held, held, list-bundle}
 use Rattle.catalogue.specs.Layout.{table}
 use Rattle.catalogue.specs.Within.{columnWithin, count-within, tableWithinTests, table-within-decided}
 use Rattle.codec.specs.Layout.{alone, listOf}

@@ -1,7 +1,7 @@
 -- `statement::delete::condition_of` meets its contract.
 -- Assumes nothing.
 use borrow.Author.Needs.{needs}
-use Rattle.statement.specs.Held.{same}
+use Rattle.bundle.specs.Held.{same}
 use Rattle.statement.specs.DeleteHeld.{delete-has, delete-whole}
 use Rattle.statement.specs.Layout.{condition}
 use Rattle.statement.proofs.delete.condition_of.Statement.{statement}

@@ -1,7 +1,7 @@
 -- `statement::delete::from_of` meets its contract.
 -- Assumes nothing.
 use borrow.Author.Needs.{needs}
-use Rattle.statement.specs.Held.{same}
+use Rattle.bundle.specs.Held.{same}
 use Rattle.statement.specs.DeleteHeld.{delete-has, delete-whole}
 use Rattle.statement.specs.Layout.{deleteFrom}
 use Rattle.statement.proofs.delete.from_of.Statement.{statement}

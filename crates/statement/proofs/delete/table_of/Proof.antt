@@ -1,7 +1,7 @@
 -- `statement::delete::table_of` meets its contract.
 -- Assumes nothing.
 use native.Mathlib.Omega.{arith}
-use Rattle.statement.specs.Held.{same}
+use Rattle.bundle.specs.Held.{same}
 use Rattle.rules.specs.Statements.{one, from}
 use Rattle.statement.specs.DeleteHeld.{delete-from-has, delete-from-wide}
 use Rattle.statement.specs.Layout.{tableWithJoins}

@@ -1,7 +1,7 @@
 -- `statement::names::only_name` meets its contract.
 -- Assumes nothing.
 use native.Mathlib.Omega.{arith}
-use Rattle.statement.specs.Held.{same}
+use Rattle.bundle.specs.Held.{same}
 use Rattle.rules.specs.Statements.{plain}
 use Rattle.statement.specs.NamesHeld.{object-name-has, object-name-wide}
 use Rattle.statement.specs.Layout.{name}

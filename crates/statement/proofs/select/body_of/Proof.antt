@@ -1,7 +1,7 @@
 -- `statement::select::body_of` meets its contract.
 -- Assumes nothing.
 use native.Mathlib.Omega.{arith}
-use Rattle.statement.specs.Held.{same}
+use Rattle.bundle.specs.Held.{same}
 use Rattle.statement.specs.SelectHeld.{query-has, query-wide}
 use Rattle.statement.specs.Layout.{queryBody}
 use Rattle.statement.proofs.select.body_of.Statement.{statement}

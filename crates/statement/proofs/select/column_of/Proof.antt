@@ -1,7 +1,7 @@
 -- `statement::select::column_of` meets its contract.
 -- Assumes nothing.
 use native.Mathlib.Omega.{arith}
-use Rattle.statement.specs.Held.{same}
+use Rattle.bundle.specs.Held.{same}
 use Rattle.rules.specs.Statements.{column}
 use Rattle.statement.specs.SelectHeld.{item-has, item-wide}
 use Rattle.statement.specs.Layout.{name}

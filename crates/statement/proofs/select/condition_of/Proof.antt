@@ -1,7 +1,7 @@
 -- `statement::select::condition_of` meets its contract.
 -- Assumes nothing.
 use borrow.Author.Needs.{needs}
-use Rattle.statement.specs.Held.{same}
+use Rattle.bundle.specs.Held.{same}
 use Rattle.statement.specs.SelectHeld.{select-has, select-whole}
 use Rattle.statement.specs.Layout.{condition}
 use Rattle.statement.proofs.select.condition_of.Statement.{statement}

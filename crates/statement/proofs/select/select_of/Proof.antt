@@ -1,7 +1,7 @@
 -- `statement::select::select_of` meets its contract.
 -- Assumes nothing.
 use native.Mathlib.Omega.{arith}
-use Rattle.statement.specs.Held.{same}
+use Rattle.bundle.specs.Held.{same}
 use Rattle.rules.specs.Statements.{plainSelect}
 use Rattle.statement.specs.SelectHeld.{body-has, body-wide}
 use Rattle.statement.specs.Layout.{select}

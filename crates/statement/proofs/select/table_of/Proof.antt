@@ -1,7 +1,7 @@
 -- `statement::select::table_of` meets its contract.
 -- Assumes nothing.
 use native.Mathlib.Omega.{arith}
-use Rattle.statement.specs.Held.{same}
+use Rattle.bundle.specs.Held.{same}
 use Rattle.rules.specs.Statements.{one}
 use Rattle.statement.specs.SelectHeld.{from-has, from-wide}
 use Rattle.statement.specs.Layout.{tableWithJoins}

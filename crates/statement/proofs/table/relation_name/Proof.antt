@@ -6,7 +6,7 @@ use mathlib.Core.List.{List}
 use Prim.Native.Nat.{ℕ}
 use lib.ListN.{length, drop, length-drop}
 use lib.Seq.{drop-drop}
-use Rattle.statement.specs.Held.{same}
+use Rattle.bundle.specs.Held.{same}
 use Rattle.statement.specs.Layout.{objectName}
 use Rattle.statement.specs.NamesHeld.{direct-has, direct-wide}
 use Rattle.statement.proofs.table.relation_name.Statement.{statement}

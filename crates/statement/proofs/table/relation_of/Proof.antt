@@ -1,7 +1,7 @@
 -- `statement::table::relation_of` meets its contract.
 -- Assumes nothing.
 use native.Mathlib.Omega.{arith}
-use Rattle.statement.specs.Held.{same}
+use Rattle.bundle.specs.Held.{same}
 use Rattle.statement.specs.NamesHeld.{table-has, table-wide}
 use Rattle.statement.specs.Layout.{relation}
 use Rattle.statement.proofs.table.relation_of.Statement.{statement}

@@ -1,7 +1,7 @@
 -- `statement::update::table_of` meets its contract.
 -- Assumes nothing.
 use borrow.Author.Needs.{needs}
-use Rattle.statement.specs.Held.{same}
+use Rattle.bundle.specs.Held.{same}
 use Rattle.statement.specs.UpdateHeld.{update-has, update-whole}
 use Rattle.statement.specs.Layout.{tableWithJoins}
 use Rattle.statement.proofs.update.table_of.Statement.{statement}

@@ -1,7 +1,7 @@
 -- `statement::update::target_name` meets its contract.
 -- Assumes nothing.
 use native.Mathlib.Omega.{arith}
-use Rattle.statement.specs.Held.{same}
+use Rattle.bundle.specs.Held.{same}
 use Rattle.rules.specs.Statements.{target}
 use Rattle.statement.specs.UpdateHeld.{target-has, target-wide}
 use Rattle.statement.specs.Layout.{objectName}

@@ -1,7 +1,7 @@
 -- `statement::update::target_of` meets its contract.
 -- Assumes nothing.
 use borrow.Author.Needs.{needs}
-use Rattle.statement.specs.Held.{same}
+use Rattle.bundle.specs.Held.{same}
 use Rattle.statement.specs.UpdateHeld.{assignment-has, assignment-whole}
 use Rattle.statement.specs.Layout.{assignmentTarget}
 use Rattle.statement.proofs.update.target_of.Statement.{statement}

@@ -1,7 +1,7 @@
 -- `statement::update::value_of` meets its contract.
 -- Assumes nothing.
 use borrow.Author.Needs.{needs}
-use Rattle.statement.specs.Held.{same}
+use Rattle.bundle.specs.Held.{same}
 use Rattle.statement.specs.UpdateHeld.{assignment-has, assignment-whole}
 use Rattle.expression.specs.Expression.{expression}
 use Rattle.statement.proofs.update.value_of.Statement.{statement}

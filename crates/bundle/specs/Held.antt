@@ -1,7 +1,7 @@
 -- What bytes hold, and a loop over the parts of a list by the values that they hold.
 -- Assumes nothing.
 use mathlib.Core.Path.{_≡_, refl, sym, ap, _∙_}
-use mathlib.Core.Bool.{true}
+use mathlib.Core.Bool.{Bool, true}
 use mathlib.Core.Option.{some, Option·some-injective}
 use mathlib.Core.List.{List, [], _∷_}
 use Prim.Native.Nat.{ℕ, _+_, _-_, _≤_, _<_}
@@ -25,6 +25,15 @@ pub record Is {A : Type 0} (f : Format A) (s : List ℕ) : Type 0 where
 
 pub is-held : {A : Type 0} {f : Format A} {s : List ℕ} {v : A} → Holds f s v → Is f s
 is-held h = record { there = there-some h }
+
+-- s holds a value of which t says yes: one case of a sum
+pub record Shows {A : Type 0} (f : Format A) (t : A → Bool) (s : List ℕ) : Type 0 where
+  pub there : isThere (f .read s) ≡ true
+  pub case : (v : A) → Holds f s v → t v ≡ true
+
+-- the same bytes hold the same
+pub same : {A : Type 0} (f : Format A) {p q : List ℕ} {v : A} → p ≡ q → Holds f q v → Holds f p v
+same f h e = ap (f .read) h ∙ e
 
 -- with the value in hand
 pub held : {A C : Type 0} {f : Format A} {s : List ℕ} → Is f s → ((v : A) → Holds f s v → C) → C
