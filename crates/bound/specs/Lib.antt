@@ -8,3 +8,4 @@ pub mod Runs
 pub mod Spelt
 pub mod Statements
 pub mod Written
+pub mod Beside
