@@ -21,7 +21,7 @@ pub fn damaged() -> Told {
 
 // The answer is 5 exactly if the bytes are no statement.
 fn statement_differs(answer: u8, s: &[u8]) -> bool {
-    if statement::is_statement(s) {
+    if reader::is_statement(s) {
         answer == 5
     } else {
         answer != 5

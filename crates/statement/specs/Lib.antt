@@ -1,11 +1,3 @@
 pub mod Layout
 pub mod Shapes
-pub mod CreateShapes
-pub mod InsertShapes
-pub mod CreateHeld
-pub mod InsertHeld
 pub mod NamesHeld
-pub mod SelectHeld
-pub mod UpdateHeld
-pub mod DeleteHeld
-pub mod StatementHeld

@@ -1,8 +1,8 @@
--- What a name, an object name and a table hold, by the bytes that the accessors look at.
+-- What a name, an object name, a table and a condition hold, by the bytes that the accessors look at.
 -- Assumes nothing.
-use mathlib.Core.Path.{_≡_, refl, sym, ap, _∙_, subst}
-use mathlib.Core.Bool.{Bool, true, false, cond}
-use mathlib.Core.Option.{some, none, Option·some-injective, Option·none-ne-some}
+use mathlib.Core.Path.{_≡_, refl, subst}
+use mathlib.Core.Bool.{Bool, true, false, not, cond}
+use mathlib.Core.Option.{Option, some, none, Option·some-injective, Option·none-ne-some}
 use mathlib.Core.List.{List}
 use Prim.Native.Nat.{ℕ, _<_}
 use native.Mathlib.Omega.{arith}
@@ -11,10 +11,12 @@ use lib.Dec.{eqb}
 use Rattle.codec.specs.Ways.{someCode}
 use Rattle.codec.specs.Layout.{text}
 use Rattle.utf8.specs.Decide.{isUtf8}
+use Rattle.bundle.specs.Bundle.{isThere}
 use Rattle.bundle.specs.Laws.{some-there}
-use Rattle.bundle.specs.Values.{MarkedHas, marked-value, via-marked-value, CodedHas, behind-code}
+use Rattle.bundle.specs.Values.{MarkedHas, marked-value, via-marked-value, CodedHas, behind-code, optional-value, optional-present}
 use Rattle.bundle.specs.Cases.{ChoiceHas, choice-has}
-use Rattle.rules.specs.Statements.{Name, ObjectName, plain, qualified, Relation, direct, indirect, TableWithJoins}
+use Rattle.rules.specs.Statements.{Expr, Name, ObjectName, Relation, direct, indirect, TableWithJoins}
+use Rattle.expression.specs.Expression.{expression}
 use Rattle.statement.specs.Layout.{
   name,
   objectNameCases,
@@ -26,6 +28,7 @@ use Rattle.statement.specs.Layout.{
   relation-made,
   relation,
   tableWithJoins,
+  condition,
 }
 use Rattle.bundle.specs.Held.{Is, Holds, Shows}
 
@@ -79,6 +82,16 @@ relation-has s v e = choice-has relationCases whichRelation relation-made refl r
 
 pub direct-has : (s : List ℕ) (m : Bool) (n : ObjectName) → Holds relation s (direct m n) → CodedHas objectName s m n
 direct-has s m n e = behind-code objectName s (marked-value objectName (drop 1 s) (relation-has s (direct m n) e .content))
+
+-- ---- a condition
+
+-- there is a byte exactly where there is a condition
+pub condition-present : (s : List ℕ) (v : Option Expr) → Holds condition s v → not (eqb (length s) 0) ≡ isThere v
+condition-present s v e = optional-present expression s e
+
+-- and its bytes are the expression's
+pub condition-holds : (s : List ℕ) (x : Expr) → Holds condition s (some x) → Holds expression s x
+condition-holds s x e = optional-value expression s e refl
 
 -- ---- what the accessors may rely on
 

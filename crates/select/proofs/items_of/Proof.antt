@@ -1,0 +1,18 @@
+-- `select::items_of` meets its contract.
+-- Assumes nothing.
+use borrow.Author.Needs.{needs}
+use Rattle.bundle.specs.Held.{same}
+use Rattle.select.specs.Held.{select-has, select-whole}
+use Rattle.codec.specs.Layout.{listOf}
+use Rattle.statement.specs.Layout.{item}
+use Rattle.select.proofs.items_of.Statement.{statement}
+use Rattle.select.proofs.items_of.Tie as tie
+
+part-requires : tie.Need-part-requires
+part-requires c κs = let r = select-whole (c .before .pre) in search needs
+
+returns : tie.Need-returns
+returns c = λ v h. same (listOf 2 item) (c .part .ensures) (select-has _ v h .items)
+
+pub items-of-spec : {M : Type 1} → statement M
+items-of-spec = tie.close (tie.spec part-requires returns)
