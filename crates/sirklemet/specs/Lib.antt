@@ -1,3 +1,4 @@
 pub mod Entry
 pub mod Hex
 pub mod Worked
+pub mod Demand
