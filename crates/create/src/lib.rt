@@ -81,14 +81,14 @@ pub fn are_column_definitions(s: &[u8]) -> bool
         return false;
     }
     let n = bundle::parts(s, 2);
-    let mut i = 0;
+    let mut column = 0;
     let mut at = bundle::first(s, 2);
-    while i < n {
-        let end = bundle::next(s, 2, i, at);
+    while column < n {
+        let end = bundle::next(s, 2, column, at);
         if !is_column_definition(&s[at..end]) {
             return false;
         }
-        i += 1;
+        column += 1;
         at = end;
     }
     true

@@ -59,16 +59,16 @@ pub fn are_rows(s: &[u8]) -> bool
 }
 
 // What follows the code of VALUES: a mark and the rows.
-fn are_values(s: &[u8]) -> bool
-    ensures { λ r. ⌜ r ≡ isThere (valuesForm .read (now (s .entry))) ⌝ }
+fn are_values(v: &[u8]) -> bool
+    ensures { λ r. ⌜ r ≡ isThere (valuesForm .read (now (v .entry))) ⌝ }
 {
-    if s.len() == 0 {
+    if v.len() == 0 {
         return false;
     }
-    if s[0] >= 2 {
+    if v[0] >= 2 {
         return false;
     }
-    are_rows(behind(s))
+    are_rows(behind(v))
 }
 
 // Code 0: no VALUES, and nothing of it is held. Code 1: VALUES.

@@ -13,10 +13,10 @@ use Rattle.create.proofs.are_column_definitions.Statement.{statement}
 use Rattle.create.proofs.are_column_definitions.Tie as tie
 
 abbrev Inv-loop : tie.InvT-loop
-Inv-loop s n i₀ at₀ i at = Walk 2 (isA columnDefinition) s (isA (listOf 2 columnDefinition) s) n i at
+Inv-loop s n column₀ at₀ column at = Walk 2 (isA columnDefinition) s (isA (listOf 2 columnDefinition) s) n column at
 
 abbrev μ-loop : tie.MeasureT-loop
-μ-loop s n i₀ at₀ i at = n - i
+μ-loop s n column₀ at₀ column at = n - column
 
 is-bundle-requires : tie.Need-is-bundle-requires Inv-loop μ-loop
 is-bundle-requires c κs = search needs
@@ -54,8 +54,8 @@ returns-2 c =
     let b = c .before .before .before in
     walk-stop (b .before .before .loop .inv) (b .next .ensures) (failed (c .before .is-column-definition .ensures) (c .if2 .taken))
 
-add-i : tie.Need-add-i Inv-loop μ-loop
-add-i c = search needs
+add-column : tie.Need-add-column Inv-loop μ-loop
+add-column c = search needs
 
 loop-less : tie.Need-loop-less Inv-loop μ-loop
 loop-less c = search needs
@@ -85,7 +85,7 @@ are-column-definitions-spec =
     part-is-column-definition-end
     is-column-definition-requires
     returns-2
-    add-i
+    add-column
     loop-less
     loop-again
     returns-3)

@@ -17,13 +17,13 @@ abbrev areRows : List ℕ → Bool
 areRows p = isThere (listOf 2 (listOf 2 expression) .read p)
 
 returns : tie.Need-returns
-returns c = no-mark (values-marked (c .before .before .args .s .now)) (c .if1 .taken)
+returns c = no-mark (values-marked (c .before .before .args .v .now)) (c .if1 .taken)
 
 shared-slice-read-if2 : tie.Need-shared-slice-read-if2
 shared-slice-read-if2 c = search needs
 
 returns-2 : tie.Need-returns-2
-returns-2 c = bad-mark (values-marked (c .before .before .before .before .args .s .now)) (c .if2 .taken)
+returns-2 c = bad-mark (values-marked (c .before .before .before .before .args .v .now)) (c .if2 .taken)
 
 behind-requires : tie.Need-behind-requires
 behind-requires c κs = search needs
@@ -34,7 +34,7 @@ are-rows-requires c κs = search needs
 returns-3 : tie.Need-returns-3
 returns-3 c =
     let b = c .before .before in
-    behind-mark (values-marked (b .before .before .before .before .args .s .now)) (search needs) (b .if2 .left)
+    behind-mark (values-marked (b .before .before .before .before .args .v .now)) (search needs) (b .if2 .left)
     (c .are-rows .ensures ∙ ap areRows (c .before .behind .ensures))
 
 pub are-values-spec : {M : Type 1} → statement M
