@@ -3,7 +3,7 @@
 use mathlib.Core.Path.{_≡_, refl, ap, _∙_}
 use mathlib.Core.Option.{none, some}
 use mathlib.Core.List.{List, [], _∷_}
-use Prim.Native.Nat.{ℕ, _+_}
+use Prim.Native.Nat.{_+_}
 use native.Mathlib.Omega.{arith}
 use lib.ListN.{length, length-append}
 use Rattle.codec.specs.Format.{Format}
@@ -30,8 +30,8 @@ use Rattle.rules.specs.Bound.{
 }
 use Rattle.bound.specs.Columns.{boundTableRef, boundColumnRef}
 use Rattle.bound.specs.Expression.{boundExpression, bound-expression-not-empty}
-use Rattle.bound.specs.Layout.{createTable, insert, select, assignment, update, delete, boundStatement}
-use Rattle.bound.specs.Bundles.{bodies, list-length, record2, record3, record2-length, record3-length}
+use Rattle.bound.specs.Layout.{assignment, boundStatement}
+use Rattle.bound.specs.Bundles.{bodies, list-length, record2-length, record3-length}
 use Rattle.bound.specs.Statements.{
   create-table-bytes,
   insert-bytes,

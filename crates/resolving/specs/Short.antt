@@ -10,7 +10,7 @@ use Rattle.tree.specs.Tree.{depth}
 use Rattle.bundle.specs.Decides.{and-of}
 use Rattle.bundle.specs.Held.{Holds, held-once}
 use Rattle.expression.specs.Names.{Within}
-use Rattle.statement.specs.Layout.{objectName, tableWithJoins}
+use Rattle.statement.specs.Layout.{name, objectName, tableWithJoins}
 use Rattle.rules.specs.Lists.{all}
 use Rattle.rules.specs.Statements.{
   Name,
@@ -47,11 +47,15 @@ use Rattle.rules.specs.Limits.{
   heldWithin,
 }
 
--- the name is within the limit, if it is a plain one
+-- a name within the limit
+pub record ShortText (n : List ℕ) : Type 0 where
+  pub short : (v : Name) → Holds name n v → length (v .text) ≤ 128
+
+-- an object name of one part within the limit, if it has one part
 pub record ShortName (n : List ℕ) : Type 0 where
   pub short : (o : ObjectName) → Holds objectName n o → all Within (objectNames o) ≡ true
 
--- and so is the name of a table, if there is one
+-- and so the name of a table, if one is named
 pub record ShortTable (w : List ℕ) : Type 0 where
   pub short : (v : TableWithJoins) → Holds tableWithJoins w v → all Within (tableNames v) ≡ true
 

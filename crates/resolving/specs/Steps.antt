@@ -120,6 +120,11 @@ pub record TableGiven (s : List ℕ) (a : Answer TableSchema) (b e : ℕ) : Type
   pub gives : a ≡ given value
   pub lies : LiesAs table s b e value
 
+-- what is answered where there is none
+pub off-resolved : (s : List ℕ) (a : Answer TableSchema) {r : Resolved} {k : Refusal} → r ≡ resolved.Refused k → a ≡ refused k → ResolvedAs s a r
+off-resolved s a q e = subst (ResolvedAs s a) (sym q) e
+
+-- what a callee that resolves has said, by the case that it answered
 module _ (s : List ℕ) (a : Answer TableSchema) {r : Resolved} (h : ResolvedAs s a r) where
   pub resolved-at : {b e : ℕ} → r ≡ resolved.At b e → TableGiven s a b e
   resolved-at {b} {e} q = let t = subst (ResolvedAs s a) q h in record { value = t .0; gives = t .1; lies = t .2 }
