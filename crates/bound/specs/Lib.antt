@@ -9,3 +9,4 @@ pub mod Spelt
 pub mod Statements
 pub mod Written
 pub mod Beside
+pub mod Sizes

@@ -1,1 +1,4 @@
 pub mod Told
+pub mod Steps
+pub mod Short
+pub mod Tables
