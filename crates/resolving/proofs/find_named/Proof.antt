@@ -1,9 +1,8 @@
 -- `resolving::find_named` meets its contract.
 -- Assumes nothing.
 use mathlib.Core.Path.{sym, ap₂, subst}
-use Prim.Native.Nat.{_≤_}
 use mathlib.Core.List.{List}
-use Prim.Native.Nat.{ℕ}
+use Prim.Native.Nat.{ℕ, _≤_}
 use lib.ListN.{length}
 use Rattle.bundle.specs.Held.{held}
 use Rattle.catalogue.specs.Finds.{FindsTable}
