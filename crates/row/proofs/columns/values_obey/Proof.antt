@@ -106,8 +106,8 @@ loop-again : tie.Need-loop-again Inv-loop μ-loop
 loop-again c =
     let n = c .before .before .before .before in
     let l = n .before .before .before in (
-      one-less (l .loop .inv .0) (n .before .before .loop-test .taken) (n .before .next .ensures),
-      one-less (l .loop .inv .1) (n .before .before .loop-test .taken) (n .next2 .ensures),
+      one-less (l .loop .inv .0) (omega (arith, n .before .before .loop-test .taken)) (n .before .next .ensures),
+      one-less (l .loop .inv .1) (omega (arith, n .before .before .loop-test .taken)) (n .next2 .ensures),
       left-on (l .loop .inv .2) (n .next2 .ensures) (λ v m e. obeyed-on (n .before .next .ensures) v m (passed (c .before .value-obeys .ensures v e) (c .if2 .left))),
     )
 
