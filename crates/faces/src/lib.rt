@@ -9,7 +9,7 @@ ghost use Rattle.faces.specs.Told.{toldOfCatalogue};
 pub extern "C" fn sirklemet_is_statement(bytes: &[u8]) -> bool
     ensures { λ r. ⌜ r ≡ isThere (statement .read (now (bytes .entry))) ⌝ }
 {
-    statement::is_statement(bytes)
+    reader::is_statement(bytes)
 }
 
 #[no_mangle]
