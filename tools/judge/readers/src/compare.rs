@@ -1,0 +1,127 @@
+//! The comparison: generated images and damaged copies of them, judged by both sides.
+
+use images::random::{Rng, any_catalogue, any_statement};
+use images::told::Told;
+use judge::generate::planted;
+
+use crate::copies::{Way, every_copy, spliced};
+use crate::mistakes::Mistake;
+use crate::sides::{Kind, proved, rust};
+use crate::tally::Tally;
+
+/// Bytes that are judged differently.
+pub struct Difference {
+    pub kind: Kind,
+    pub way: Way,
+    pub bytes: Vec<u8>,
+    pub rust: Told,
+    pub proved: u8,
+}
+
+#[derive(Default)]
+pub struct Comparison {
+    mistake: Option<&'static Mistake>,
+    /// How many images are still to be compared.
+    left: u64,
+    pub tally: Tally,
+    pub differences: u64,
+    pub first: Option<Difference>,
+}
+
+/// Of ten images one is compared as it was made, seven are damaged at one place, and two are spliced.
+/// The Rust side is the decoder, or the decoder with a mistake.
+pub fn compare(mistake: Option<&'static Mistake>, seed: u64, count: u64) -> Comparison {
+    let mut comparison = Comparison { mistake, ..Comparison::default() };
+    comparison.images_as_made(seed, count / 10);
+    comparison.every_copy(seed, count - count / 10 - count / 5);
+    comparison.splices(seed, count / 5);
+    comparison
+}
+
+/// Small enough that a million images have some hundred with every damage.
+const SMALL: usize = 500;
+
+impl Comparison {
+    fn see(&mut self, kind: Kind, way: Way, bytes: &[u8]) {
+        if self.left == 0 {
+            return;
+        }
+        self.left -= 1;
+        let rust = match self.mistake {
+            Some(mistake) => mistake.told(kind, bytes),
+            None => rust(kind, bytes),
+        };
+        let proved = proved(kind, bytes);
+        self.tally.add(kind, rust.number, way);
+        if rust.number != proved {
+            self.differences += 1;
+            self.first.get_or_insert_with(|| Difference { kind, way, bytes: bytes.to_vec(), rust, proved });
+        }
+    }
+
+    fn images_as_made(&mut self, seed: u64, count: u64) {
+        self.left = count;
+        let mut index = 0;
+        while self.left > 0 {
+            let case = planted(seed, index).case;
+            self.see(Kind::Statement, Way::Made, &case.statement);
+            self.see(Kind::Catalogue, Way::Made, &case.catalogue);
+            index += 1;
+        }
+    }
+
+    fn every_copy(&mut self, seed: u64, count: u64) {
+        self.left = count;
+        let mut index = 0;
+        while self.left > 0 {
+            let mut rng = Rng::of_case(seed, index);
+            let kind = Kind::ALL[index as usize % Kind::ALL.len()];
+            let image = image(&mut rng, kind, SMALL);
+            self.tally.whole += 1;
+            self.tally.whole_bytes += image.len() as u64;
+            every_copy(&mut rng, &image, &mut |way, bytes| self.see(kind, way, bytes));
+            index += 1;
+        }
+    }
+
+    fn splices(&mut self, seed: u64, count: u64) {
+        self.left = count;
+        let mut index = 0;
+        while self.left > 0 {
+            // not the images that every_copy took
+            let mut rng = Rng::of_case(!seed, index);
+            let kind = Kind::ALL[index as usize % Kind::ALL.len()];
+            let (image, other) = (image(&mut rng, kind, usize::MAX), image(&mut rng, kind, SMALL));
+            for _ in 0..50 {
+                self.see(kind, Way::Spliced, &spliced(&mut rng, &image, &other));
+            }
+            index += 1;
+        }
+    }
+}
+
+/// An image of at most so many bytes: one that makes sense, or one of any shape.
+fn image(rng: &mut Rng, kind: Kind, most: usize) -> Vec<u8> {
+    loop {
+        let image = if rng.once_in(3) { any_image(rng, kind) } else { sensible_image(rng, kind) };
+        if image.len() <= most && rust(kind, &image).number != kind.none() {
+            return image;
+        }
+    }
+}
+
+fn any_image(rng: &mut Rng, kind: Kind) -> Vec<u8> {
+    let image = match kind {
+        Kind::Statement => any_statement(rng).encode(),
+        Kind::Catalogue => any_catalogue(rng).encode(),
+    };
+    image.unwrap_or_default()
+}
+
+fn sensible_image(rng: &mut Rng, kind: Kind) -> Vec<u8> {
+    let case = planted(rng.draw(), 0).case;
+    match kind {
+        Kind::Statement => case.statement,
+        Kind::Catalogue => case.catalogue,
+    }
+}
