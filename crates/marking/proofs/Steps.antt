@@ -1,36 +1,41 @@
 -- One step of marking: what the operands' answers make of a node's, by the kind k of the node.
 -- Assumes nothing.
-use mathlib.Core.Path.{_≡_, _∙_, refl, sym, ap}
+use mathlib.Core.Path.{_≡_, _∙_, refl, sym, ap, ap₂}
 use mathlib.Core.Bool.{Bool, true, false, _&&_, true≢false}
 use mathlib.Core.List.{List}
 use mathlib.Core.Option.{Option, some, none}
 use Prim.Native.Nat.{ℕ, _+_, _-_, _<_, _≤_}
 use native.Mathlib.Omega.{arith}
 use lib.Dec.{ltb, eqb, lit<}
+use lib.ListN.{length}
 use borrow.Author.Tests.{ltb-true, eqb-true, lt-ltb, eq-eqb}
+use Rattle.wire.specs.Le.{Bytes}
 use Rattle.tree.specs.Tree.{leaf, un, bin}
 use Rattle.bundle.specs.Decides.{and-of}
 use Rattle.rules.specs.declared.BoundUnaryOperator.the-variants.{Positive, Negative, Not}
-use Rattle.rules.specs.declared.ExpressionType.the-variants as type
-use Rattle.rules.specs.declared.Mark.{Mark}
 use Rattle.rules.specs.declared.Refusal.{Refusal}
 use Rattle.rules.specs.Lists.{Text}
-use Rattle.rules.specs.Lookup as lookup
-use Rattle.rules.specs.Marking.{integerLeaf, leafRule, sign, leafNumber, numberIn, together, signedNumber, unaryRule, binaryRule, rootMark, marking}
+use Rattle.rules.specs.Answers.{Answer, given, refused}
+use Rattle.rules.specs.Bound.{BoundExpr}
+use Rattle.rules.specs.Marking.{integerLeaf, leafRule, sign, leafNumber, numberIn, together, signedNumber, unaryRule, binaryRule, bindExpression}
 use Rattle.rules.specs.Theorems.Answered.{mapped}
 use Rattle.rules.specs.Numbers.{integerLiteral}
 use Rattle.rules.specs.Statements.{Leaf, Unary, parentheses, nullTest, unary, otherUnary, Expr}
 use Rattle.rules.specs.Tables.{TableSchema}
 use Rattle.catalogue.specs.Layout.{table}
-use Rattle.expression.specs.Place.{Node, nodeAt, leafKind, leafOf, unKind, unOf, binOf, top, Root}
+use Rattle.expression.specs.Expression.{expression}
+use Rattle.expression.specs.Place.{Node, nodeCount, nodeAt, leafKind, leafOf, unKind, unOf, binOf, top, Root}
 use Rattle.expression.specs.Heads.{leaf-range, un-range, bin-range, un-of}
 use Rattle.expression.specs.Trees.{kindOf}
-use Rattle.expression.specs.Laws.{leaf-at, bin-at}
+use Rattle.expression.specs.Laws.{placed, leaf-at, bin-at}
+use Rattle.bound.specs.Expression.{boundExpression}
 use Rattle.bundle.specs.Held.{Holds}
+use Rattle.marking.specs.declared.Measured.{Measured}
 use Rattle.marking.specs.declared.Marked.{Marked}
 use Rattle.marking.specs.declared.Marked.the-variants as marked
-use Rattle.marking.specs.Told.{told, verdictTold, leafTold, after}
-use Rattle.marking.specs.Marks.{Marks}
+use Rattle.marking.specs.declared.Sized.the-variants as sized
+use Rattle.marking.specs.Told.{measured, told, leafTold, after, nullTold, overOne, overTwo, unaryTold, sizeTold}
+use Rattle.marking.specs.Marks.{Marks, Sizes}
 use Rattle.marking.proofs.Told.{leaf-told, un-told, bin-told, refused-told, after-same, after-is}
 
 -- ---- a sign directly over a number, by the two nodes' kinds
@@ -82,37 +87,45 @@ signs k n = ltb k 14 && eqb (n .kind) 2
 pub no-sign : (k : ℕ) (n : Node) → signs k n ≡ false → k < 14 → n .kind ≡ 2 → ⊥
 no-sign k n f hi z = true≢false (sym (rw (lt-ltb k 14 hi, eq-eqb (n .kind) 2 z)) ∙ f)
 
--- ---- rules by kinds
+-- ---- answers by kinds
 
-null-rule : (o : Unary) → 10 ≤ unKind o → unKind o < 12 → (m : Mark) → marked.Is (lookup.mark type.Bool false) ≡ verdictTold (unaryRule o m)
-unfolding unKind unaryRule
-null-rule parentheses lo hi m = absurd (omega arith)
-null-rule (nullTest n) lo hi m = refl
-null-rule (unary Positive) lo hi m = absurd (omega arith)
-null-rule (unary Negative) lo hi m = absurd (omega arith)
-null-rule (unary Not) lo hi m = absurd (omega arith)
-null-rule otherUnary lo hi m = absurd (omega arith)
+null-by-kind : (o : Unary) → 10 ≤ unKind o → unKind o < 12 → (m : Measured) → nullTold m ≡ unaryTold o m
+unfolding unKind unaryTold
+null-by-kind parentheses lo hi m = absurd (omega arith)
+null-by-kind (nullTest n) lo hi m = refl
+null-by-kind (unary Positive) lo hi m = absurd (omega arith)
+null-by-kind (unary Negative) lo hi m = absurd (omega arith)
+null-by-kind (unary Not) lo hi m = absurd (omega arith)
+null-by-kind otherUnary lo hi m = absurd (omega arith)
 
-parens-rule : (o : Unary) → unKind o ≡ 9 → (m : Mark) → marked.Is m ≡ verdictTold (unaryRule o m)
-unfolding unKind unaryRule
-parens-rule parentheses h m = refl
-parens-rule (nullTest false) h m = absurd (omega arith)
-parens-rule (nullTest true) h m = absurd (omega arith)
-parens-rule (unary Positive) h m = absurd (omega arith)
-parens-rule (unary Negative) h m = absurd (omega arith)
-parens-rule (unary Not) h m = absurd (omega arith)
-parens-rule otherUnary h m = absurd (omega arith)
+parens-by-kind : (o : Unary) → unKind o ≡ 9 → (m : Measured) → marked.Is m ≡ unaryTold o m
+unfolding unKind unaryTold
+parens-by-kind parentheses h m = refl
+parens-by-kind (nullTest false) h m = absurd (omega arith)
+parens-by-kind (nullTest true) h m = absurd (omega arith)
+parens-by-kind (unary Positive) h m = absurd (omega arith)
+parens-by-kind (unary Negative) h m = absurd (omega arith)
+parens-by-kind (unary Not) h m = absurd (omega arith)
+parens-by-kind otherUnary h m = absurd (omega arith)
+
+operator-by-kind : (o : Unary) → 12 ≤ unKind o → (m : Measured) → overOne (unaryRule o) m ≡ unaryTold o m
+unfolding unKind unaryTold
+operator-by-kind parentheses lo m = absurd (omega arith)
+operator-by-kind (nullTest false) lo m = absurd (omega arith)
+operator-by-kind (nullTest true) lo m = absurd (omega arith)
+operator-by-kind (unary o) lo m = refl
+operator-by-kind otherUnary lo m = refl
 
 -- ---- the steps
 
 module _ (t e : List ℕ) (i k : ℕ) (is : k ≡ (nodeAt e i) .kind) (r : Marked) where
   pub leaf-says : k < 9 → ((v : TableSchema) → Holds table t v → r ≡ leafTold (leafRule v (leafOf k ((nodeAt e i) .text)))) → Marks t e i r
-  unfolding marking
+  unfolding bindExpression
   leaf-says hi q v h x g = rw (leaf-at (nodeAt e) i k is x g hi) (q v h ∙ leaf-told (leafRule v (leafOf k ((nodeAt e i) .text))))
 
   pub literal-says : 12 ≤ k → signs k (nodeAt e (i - 1)) ≡ true → (s : Text) → s ≡ (nodeAt e (i - 1)) .text
       → r ≡ leafTold (integerLeaf (integerLiteral (eqb k 13) s)) → Marks t e i r
-  unfolding Root top marking signedNumber
+  unfolding Root top bindExpression signedNumber
   literal-says lo f s d q v h (leaf l) g = absurd (omega (arith, leaf-range l, ap kindOf g))
   literal-says lo f s d q v h (un o a) g =
       let p = and-of (ltb k 14) (eqb ((nodeAt e (i - 1)) .kind) 2) f in
@@ -125,45 +138,67 @@ module _ (t e : List ℕ) (i k : ℕ) (is : k ≡ (nodeAt e i) .kind) (r : Marke
       let hi : k < 14 = ltb-true k 14 (p .0) in
       absurd (omega (arith, bin-range o, ap kindOf (g .0)))
 
-  -- the operand's answer is y, the node makes f of a mark, and the two are no literal
+  -- the operand's answer is y, the node makes f of what it measures, and the two are no literal
   pub un-says : 9 ≤ k → k < 16 → (12 ≤ k → k < 14 → (nodeAt e (i - 1)) .kind ≡ 2 → ⊥)
-      → (f : Mark → Marked) → ((o : Unary) → k ≡ unKind o → (m : Mark) → f m ≡ verdictTold (unaryRule o m))
+      → (f : Measured → Marked) → ((o : Unary) → k ≡ unKind o → (m : Measured) → f m ≡ unaryTold o m)
       → (y : Marked) → Marks t e (i - 1) y → r ≡ after y f → Marks t e i r
-  unfolding Root top marking signedNumber
+  unfolding Root top bindExpression signedNumber
   un-says lo hi n f d y s q v h (leaf l) g = absurd (omega (arith, leaf-range l, ap kindOf g))
   un-says lo hi n f d y s q v h (un o a) g =
       let c : k ≡ unKind o = is ∙ ap kindOf (g .0) in
       rw (no-literal o _ (λ lo′ hi′. no-number-below (nodeAt e) (i - 1) a (g .2) (n (omega arith) (omega arith))))
-      (q ∙ after-same y f (λ m. verdictTold (unaryRule o m)) (d o c) ∙ rw (s v h a (g .2)) (un-told (marking v a) (unaryRule o)))
+      (q ∙ after-same y f (unaryTold o) (d o c) ∙ rw (s v h a (g .2)) (un-told o (bindExpression v a)))
   un-says lo hi n f d y s q v h (bin o a b) g = absurd (omega (arith, bin-range o, ap kindOf (g .0)))
 
   pub parens-says : k ≡ 9 → Marks t e (i - 1) r → Marks t e i r
   parens-says z s =
-      un-says (omega arith) (omega arith) (λ lo hi n. omega arith) marked.Is (λ o c. parens-rule o (sym c ∙ z)) r s (after-is r)
+      un-says (omega arith) (omega arith) (λ lo hi n. omega arith) marked.Is (λ o c. parens-by-kind o (sym c ∙ z)) r s (after-is r)
 
-  pub null-says : 10 ≤ k → k < 12 → (y : Marked) → Marks t e (i - 1) y → r ≡ after y (λ m. marked.Is (lookup.mark type.Bool false)) → Marks t e i r
+  pub null-says : 10 ≤ k → k < 12 → (y : Marked) → Marks t e (i - 1) y → r ≡ after y nullTold → Marks t e i r
   null-says lo hi y s q =
-      un-says (omega arith) (omega arith) (λ l m n. omega arith) (λ m. marked.Is (lookup.mark type.Bool false)) (λ o c. null-rule o (omega arith) (omega arith)) y s q
+      un-says (omega arith) (omega arith) (λ l m n. omega arith) nullTold (λ o c. null-by-kind o (omega arith) (omega arith)) y s q
 
   pub operator-says : 12 ≤ k → k < 16 → signs k (nodeAt e (i - 1)) ≡ false → (y : Marked) → Marks t e (i - 1) y
-      → r ≡ after y (λ m. verdictTold (unaryRule (unOf k) m)) → Marks t e i r
+      → r ≡ after y (overOne (unaryRule (unOf k))) → Marks t e i r
   operator-says lo hi f y s q =
-      un-says (omega arith) hi (λ l. no-sign k (nodeAt e (i - 1)) f) (λ m. verdictTold (unaryRule (unOf k) m))
-      (λ o c m. ap (λ (p : Unary). verdictTold (unaryRule p m)) (ap unOf c ∙ un-of o)) y s q
+      un-says (omega arith) hi (λ l. no-sign k (nodeAt e (i - 1)) f) (overOne (unaryRule (unOf k)))
+      (λ o c m. ap (λ (p : Unary). overOne (unaryRule p) m) (ap unOf c ∙ un-of o) ∙ operator-by-kind o (omega arith) m) y s q
 
   module _ (lo : 16 ≤ k) (n : ℕ) (d : n ≡ (nodeAt e (i - 1)) .span) (y : Marked) (left : Marks t e (i - 1 - n) y) where
     -- the left operand's refusal stands
     pub left-says : (q : Refusal) → y ≡ marked.Refused q → r ≡ marked.Refused q → Marks t e i r
-    unfolding marking
+    unfolding bindExpression
     left-says q p z v h x g =
         let a = bin-at (nodeAt e) i k is n d x g lo in
-        let c : marked.Refused q ≡ told (mapped rootMark (marking v (a .left))) = sym p ∙ left v h (a .left) (a .left-root) in
-        rw (a .is) (z ∙ refused-told (marking v (a .left)) q c _)
+        let c : marked.Refused q ≡ told (mapped measured (bindExpression v (a .left))) = sym p ∙ left v h (a .left) (a .left-root) in
+        rw (a .is) (z ∙ refused-told (bindExpression v (a .left)) q c _)
 
-    pub bin-says : (m : Mark) → y ≡ marked.Is m → (z : Marked) → Marks t e (i - 1) z
-        → r ≡ after z (λ b. verdictTold (binaryRule (binOf k) m b)) → Marks t e i r
-    unfolding marking
+    pub bin-says : (m : Measured) → y ≡ marked.Is m → (z : Marked) → Marks t e (i - 1) z
+        → r ≡ after z (overTwo (binaryRule (binOf k)) m) → Marks t e i r
+    unfolding bindExpression
     bin-says m p z right q v h x g =
         let a = bin-at (nodeAt e) i k is n d x g lo in
-        let c : marked.Is m ≡ told (mapped rootMark (marking v (a .left))) = sym p ∙ left v h (a .left) (a .left-root) in
-        rw (a .is) (q ∙ rw (right v h (a .right) (a .right-root)) (bin-told (marking v (a .left)) (marking v (a .right)) (binaryRule (binOf k)) m c))
+        let c : marked.Is m ≡ told (mapped measured (bindExpression v (a .left))) = sym p ∙ left v h (a .left) (a .left-root) in
+        rw (a .is) (q ∙ rw (right v h (a .right) (a .right-root)) (bin-told (binOf k) (bindExpression v (a .left)) (bindExpression v (a .right)) m c))
+
+-- ---- a whole expression
+
+size-told : (a : Answer BoundExpr) (m : Measured) → marked.Is m ≡ told (mapped measured a) → (k : ℕ)
+    → ((b : BoundExpr) → measured b ≡ m → k ≡ length (boundExpression .write b)) → sized.Is (m .mark) k ≡ sizeTold a
+size-told (given b) m h k f = let e : measured b ≡ m = cc in ap₂ sized.Is (sym (ap (λ (x : Measured). x .mark) e)) (f b e)
+size-told (refused q) m h k f = absurd (let n : _≡_ {A = ℕ} 0 1 = cc in omega arith)
+
+refused-size : (a : Answer BoundExpr) (q : Refusal) → marked.Refused q ≡ told (mapped measured a) → sized.Refused q ≡ sizeTold a
+refused-size (given b) q h = absurd (let n : _≡_ {A = ℕ} 0 1 = cc in omega arith)
+refused-size (refused r) q h = let e : q ≡ r = cc in ap sized.Refused e
+
+module _ (t e : List ℕ) (b : Bytes e) (n : ℕ) (is : n ≡ nodeCount e) (y : Marked) (s : Marks t e (n - 1) y) where
+  at-root : (v : TableSchema) → Holds table t v → (x : Expr) → Holds expression e x → y ≡ told (mapped measured (bindExpression v x))
+  at-root v h x g = s v h x (rw is (placed b g .0))
+
+  pub size-says : (m : Measured) → y ≡ marked.Is m → (k : ℕ) → ((c : BoundExpr) → measured c ≡ m → k ≡ length (boundExpression .write c))
+      → Sizes t e (sized.Is (m .mark) k)
+  size-says m p k f v h x g = size-told (bindExpression v x) m (sym p ∙ at-root v h x g) k f
+
+  pub refused-says : (q : Refusal) → y ≡ marked.Refused q → Sizes t e (sized.Refused q)
+  refused-says q p v h x g = refused-size (bindExpression v x) q (sym p ∙ at-root v h x g)

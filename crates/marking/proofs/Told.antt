@@ -1,57 +1,81 @@
 -- Answers of the rules and of the code, step by step.
 -- Assumes nothing.
 use mathlib.Core.Path.{_≡_, refl}
-use Rattle.tree.specs.Tree.{un, bin}
-use Prim.Native.Nat.{ℕ}
+use Rattle.tree.specs.Tree.{un, bin, size}
+use Prim.Native.Nat.{ℕ, _+_}
 use native.Mathlib.Omega.{arith}
+use Rattle.rules.specs.declared.BoundBinaryOperator.{BoundBinaryOperator}
 use Rattle.rules.specs.declared.Mark.{Mark}
 use Rattle.rules.specs.declared.Refusal.{Refusal}
 use Rattle.rules.specs.Answers.{Answer, given, refused, _>>=_, Verdict, fine, flaw, judged}
 use Rattle.rules.specs.Bound as bound
-use Rattle.rules.specs.Bound.{BoundLeaf}
-use Rattle.rules.specs.Marking.{Marking, rootMark, markedLeaf}
+use Rattle.rules.specs.Bound.{BoundLeaf, BoundUnary, BoundExpr, markOf}
+use Rattle.rules.specs.Marking.{with, unaryRule, binaryRule, boundLeaf, boundUnary, boundBinary}
+use Rattle.rules.specs.Statements.{Unary, parentheses, nullTest, unary, otherUnary, Binary, binary, otherBinary}
 use Rattle.rules.specs.Theorems.Answered.{mapped}
 use Rattle.operators.specs.Told.{toldMark}
+use Rattle.bound.specs.Runs.{contentLength}
+use Rattle.marking.specs.declared.Measured.{Measured}
 use Rattle.marking.specs.declared.Marked.{Marked}
 use Rattle.marking.specs.declared.Marked.the-variants as marked
-use Rattle.marking.specs.Told.{told, verdictTold, leafTold, ruled, after}
+use Rattle.marking.specs.Told.{measured, told, verdictTold, leafTold, ruled, after, overTwo, unaryTold}
 
-pub ruled-told : (u : Verdict Mark) → ruled (toldMark u) ≡ verdictTold u
-ruled-told (fine m) = refl
-ruled-told (flaw k) = refl
+pub ruled-told : (n c : ℕ) (u : Verdict Mark) → ruled n c (toldMark u) ≡ verdictTold n c u
+ruled-told n c (fine m) = refl
+ruled-told n c (flaw k) = refl
 
-pub leaf-told : (u : Verdict (bound.Marked BoundLeaf)) → leafTold u ≡ told (mapped rootMark (judged u >>= markedLeaf))
+pub leaf-told : (u : Verdict (bound.Marked BoundLeaf)) → leafTold u ≡ told (mapped measured (judged u >>= boundLeaf))
+unfolding size contentLength
 leaf-told (fine l) = refl
 leaf-told (flaw k) = refl
 
-un-node : (u : Verdict Mark) (w : Marking) → told (mapped rootMark (judged u >>= (λ m. given (un m w)))) ≡ verdictTold u
-un-node (fine m) w = refl
-un-node (flaw k) w = refl
+-- the rule at a node, which is one node more than its operands
+un-node : (u : Verdict Mark) (o : BoundUnary) (a : BoundExpr)
+    → verdictTold (size a + 1) (contentLength a) u ≡ told (mapped measured (judged u >>= (λ m. given (un (with o m) a))))
+unfolding size contentLength
+un-node (fine m) o a = refl
+un-node (flaw k) o a = refl
 
-bin-node : (u : Verdict Mark) (w z : Marking) → told (mapped rootMark (judged u >>= (λ m. given (bin m w z)))) ≡ verdictTold u
-bin-node (fine m) w z = refl
-bin-node (flaw k) w z = refl
+bin-node : (u : Verdict Mark) (o : BoundBinaryOperator) (a b : BoundExpr)
+    → verdictTold (size a + size b + 1) (contentLength a + contentLength b) u ≡ told (mapped measured (judged u >>= (λ m. given (bin (with o m) a b))))
+unfolding size contentLength
+bin-node (fine m) o a b = refl
+bin-node (flaw k) o a b = refl
 
 -- an operand's answer, and what the node makes of it
-pub un-told : (y : Answer Marking) (f : Mark → Verdict Mark)
-    → after (told (mapped rootMark y)) (λ m. verdictTold (f m)) ≡ told (mapped rootMark (y >>= (λ w. judged (f (rootMark w)) >>= (λ m. given (un m w)))))
-un-told (given w) f = rw (un-node (f (rootMark w)) w)
-un-told (refused q) f = refl
+over-one : (o : Unary) (x : BoundExpr)
+    → unaryTold o (measured x) ≡ told (mapped measured (judged (unaryRule o (markOf x)) >>= (λ m. given (boundUnary o m x))))
+unfolding unaryTold unaryRule boundUnary size contentLength
+over-one parentheses x = refl
+over-one (nullTest n) x = refl
+over-one (unary o) x = un-node (unaryRule (unary o) (markOf x)) (BoundUnary.unary o) x
+over-one otherUnary x = refl
 
--- two operands: the left one's mark is m, or its refusal stands
-pub bin-told : (y z : Answer Marking) (f : Mark → Mark → Verdict Mark) (m : Mark) → marked.Is m ≡ told (mapped rootMark y)
-    → after (told (mapped rootMark z)) (λ b. verdictTold (f m b))
-    ≡ told (mapped rootMark (y >>= (λ w. z >>= (λ x. judged (f (rootMark w) (rootMark x)) >>= (λ n. given (bin n w x))))))
-bin-told (given w) (given x) f m h = let e : m ≡ rootMark w = cc in rw (e, bin-node (f (rootMark w) (rootMark x)) w x)
-bin-told (given w) (refused q) f m h = refl
-bin-told (refused q) z f m h = absurd (let n : _≡_ {A = ℕ} 0 1 = cc in omega arith)
+pub un-told : (o : Unary) (y : Answer BoundExpr)
+    → after (told (mapped measured y)) (unaryTold o) ≡ told (mapped measured (y >>= (λ x. judged (unaryRule o (markOf x)) >>= (λ m. given (boundUnary o m x)))))
+un-told o (given x) = over-one o x
+un-told o (refused q) = refl
 
-pub refused-told : (y : Answer Marking) (q : Refusal) → marked.Refused q ≡ told (mapped rootMark y) → (f : Marking → Answer Marking)
-    → marked.Refused q ≡ told (mapped rootMark (y >>= f))
-refused-told (given w) q h f = absurd (let n : _≡_ {A = ℕ} 0 1 = cc in omega arith)
+-- two operands: the left one's answer is m, or its refusal stands
+over-two : (o : Binary) (x y : BoundExpr)
+    → overTwo (binaryRule o) (measured x) (measured y) ≡ told (mapped measured (judged (binaryRule o (markOf x) (markOf y)) >>= (λ m. given (boundBinary o m x y))))
+unfolding boundBinary binaryRule
+over-two (binary o) x y = bin-node (binaryRule (binary o) (markOf x) (markOf y)) o x y
+over-two otherBinary x y = refl
+
+pub bin-told : (o : Binary) (y z : Answer BoundExpr) (m : Measured) → marked.Is m ≡ told (mapped measured y)
+    → after (told (mapped measured z)) (overTwo (binaryRule o) m)
+    ≡ told (mapped measured (y >>= (λ a. z >>= (λ b. judged (binaryRule o (markOf a) (markOf b)) >>= (λ n. given (boundBinary o n a b))))))
+bin-told o (given a) (given b) m h = let e : m ≡ measured a = cc in rw e (over-two o a b)
+bin-told o (given a) (refused q) m h = refl
+bin-told o (refused q) z m h = absurd (let n : _≡_ {A = ℕ} 0 1 = cc in omega arith)
+
+pub refused-told : (y : Answer BoundExpr) (q : Refusal) → marked.Refused q ≡ told (mapped measured y) → (f : BoundExpr → Answer BoundExpr)
+    → marked.Refused q ≡ told (mapped measured (y >>= f))
+refused-told (given a) q h f = absurd (let n : _≡_ {A = ℕ} 0 1 = cc in omega arith)
 refused-told (refused r) q h f = h
 
-pub after-same : (y : Marked) (f g : Mark → Marked) → ((m : Mark) → f m ≡ g m) → after y f ≡ after y g
+pub after-same : (y : Marked) (f g : Measured → Marked) → ((m : Measured) → f m ≡ g m) → after y f ≡ after y g
 after-same (marked.Is m) f g h = h m
 after-same (marked.Refused q) f g h = refl
 

@@ -1,3 +1,4 @@
 pub mod Told
 pub mod Marks
 pub mod Names
+pub mod Small

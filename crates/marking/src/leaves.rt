@@ -1,5 +1,11 @@
-// The marks of leaves.
+// The leaves of a bound expression: each is one node, and holds a column or a literal.
 use crate::Marked;
+use crate::Measured;
+use bound::columns::column_ref_len;
+use bound::values::bool_len;
+use bound::values::int_len;
+use bound::values::null_len;
+use bound::values::text_len;
 use catalogue::Named;
 use catalogue::find_column;
 use expression::text;
@@ -15,15 +21,16 @@ ghost use Prim.Native.Nat.{_<_, _≤_};
 ghost use lib.ListN.{length};
 ghost use Rattle.expression.specs.Place.{nodeAt};
 ghost use Rattle.names.specs.Compared.{named};
+ghost use Rattle.rules.specs.Bound.{Value};
 ghost use Rattle.rules.specs.Lookup as lookup;
-ghost use Rattle.rules.specs.Marking.{columnLeaf, integerLeaf};
+ghost use Rattle.rules.specs.Marking.{columnLeaf, integerLeaf, literalLeaf};
 ghost use Rattle.rules.specs.Names.{canonical};
 ghost use Rattle.rules.specs.Numbers.{integerLiteral};
 ghost use Rattle.rules.specs.Tables.{TableSchema};
+ghost use Rattle.value.specs.Parts.{value};
 ghost use Rattle.catalogue.specs.Layout.{table};
 ghost use Rattle.bundle.specs.Held.{Is, Holds};
-ghost use Rattle.marking.specs.declared.Marked.the-variants as marked;
-ghost use Rattle.marking.specs.Told.{refusedWith, leafTold};
+ghost use Rattle.marking.specs.Told.{refusedWith, leafTold, typeOf, textOf};
 ghost use Rattle.marking.specs.Marks.{Markable, Marks};
 
 pub fn refuse(class: Class) -> Marked
@@ -32,11 +39,28 @@ pub fn refuse(class: Class) -> Marked
     Marked::Refused(Refusal { class })
 }
 
-// What is known by its kind alone.
-pub fn literal(ty: ExpressionType, nullable: bool) -> Marked
-    ensures { λ r. ⌜ r ≡ marked.Is (lookup.mark ty nullable) ⌝ }
+// The bytes that a literal of this type holds, where n are those of its text.
+fn literal_len(ty: ExpressionType, n: usize) -> usize
+    requires { ⌜ n ≤ 65536 ⌝ }
+    ensures { λ r. ⌜ ((v : Value) → typeOf v ≡ ty → textOf v ≡ n → r ≡ length (value .write v)) ⌝ }
 {
-    Marked::Is(Mark { ty, nullable })
+    match ty {
+        ExpressionType::Int => int_len(),
+        ExpressionType::Text => text_len(n),
+        ExpressionType::Bool => bool_len(),
+        ExpressionType::Null => null_len(),
+    }
+}
+
+fn literal(ty: ExpressionType, nullable: bool, n: usize) -> Marked
+    requires { ⌜ n ≤ 65536 ⌝ }
+    ensures { λ r. ⌜ ((v : Value) → typeOf v ≡ ty → textOf v ≡ n → r ≡ leafTold (literalLeaf v ty nullable)) ⌝ }
+{
+    Marked::Is(Measured {
+        mark: Mark { ty, nullable },
+        nodes: 1,
+        content: literal_len(ty, n),
+    })
 }
 
 // A number, under a minus or not: its text must be one of 64 signed bits.
@@ -44,12 +68,12 @@ pub fn number(s: &[u8], negative: bool) -> Marked
     ensures { λ r. ⌜ r ≡ leafTold (integerLeaf (integerLiteral negative (now (s .entry)))) ⌝ }
 {
     match integer_literal(s, negative) {
-        Literal::Value(_) => literal(ExpressionType::Int, false),
+        Literal::Value(_) => literal(ExpressionType::Int, false, 0),
         Literal::Bad => refuse(Class::SchemaMismatch),
     }
 }
 
-// A name stands for a column of the table.
+// A name stands for a column of the table, and the bound leaf holds the name that the table has.
 fn column(t: &[u8], quoted: bool, name: &[u8]) -> Marked
     requires { ⌜ Is table (now t) × (length (now name) ≤ 128) ⌝ }
     ensures { λ r. ⌜ ((v : TableSchema) → Holds table (now (t .entry)) v
@@ -58,7 +82,11 @@ fn column(t: &[u8], quoted: bool, name: &[u8]) -> Marked
     match find_column(t, quoted, name) {
         Named::Is(c) => {
             let ty = c.ty;
-            Marked::Is(column_mark(ty, c.nullable))
+            Marked::Is(Measured {
+                mark: column_mark(ty, c.nullable),
+                nodes: 1,
+                content: column_ref_len(c.end - c.start),
+            })
         }
         Named::Nothing => refuse(Class::SchemaMismatch),
     }
@@ -74,10 +102,10 @@ pub fn leaf(t: &[u8], e: &[u8], i: usize, k: u8) -> Marked
         0 => column(t, false, text(e, i)),
         1 => column(t, true, text(e, i)),
         2 => number(text(e, i), false),
-        3 => literal(ExpressionType::Text, false),
-        4 => literal(ExpressionType::Bool, false),
-        5 => literal(ExpressionType::Bool, false),
-        6 => literal(ExpressionType::Null, true),
+        3 => literal(ExpressionType::Text, false, text(e, i).len()),
+        4 => literal(ExpressionType::Bool, false, 0),
+        5 => literal(ExpressionType::Bool, false, 0),
+        6 => literal(ExpressionType::Null, true, 0),
         7 => refuse(Class::UnsupportedSql),
         _ => refuse(Class::UnsupportedSql),
     }

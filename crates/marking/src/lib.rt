@@ -1,29 +1,45 @@
-// Marks the nodes of an expression over a table. A node's operands are marked before the node, the left one first; the node's number falls
-// on the way round, and the calls are as deep as the expression.
+// Marks the nodes of an expression over a table, and measures the bound expression on the way. A node's operands are marked before the node,
+// the left one first; the node's number falls on the way round, and the calls are as deep as the expression.
 mod leaves;
 mod nodes;
 
+use bound::fields::count_len;
+use bound::nodes::node_len;
 use expression::kind;
 use expression::span;
 use expression::text;
 use leaves::leaf;
-use leaves::literal;
 use leaves::number;
+use nodes::null_test;
 use nodes::one_operand;
 use nodes::signs_number;
 use nodes::two_operands;
-use rules::ExpressionType;
 ghost use mathlib.Core.Path.{_≡_};
 ghost use Prim.Native.Nat.{_<_, _≤_};
+ghost use lib.ListN.{length};
+ghost use Rattle.rules.specs.Bound.{BoundExpr};
+ghost use Rattle.bound.specs.Expression.{boundExpression};
+ghost use Rattle.bundle.specs.Held.{Is};
+ghost use Rattle.catalogue.specs.Layout.{table};
+ghost use Rattle.expression.specs.Expression.{expression};
 ghost use Rattle.expression.specs.Place.{nodeAt};
-ghost use Rattle.marking.specs.Marks.{Markable, Marks};
+ghost use Rattle.marking.specs.Told.{measured};
+ghost use Rattle.marking.specs.Marks.{NamesWithin, Markable, Marks, Sizes};
+ghost use Rattle.marking.specs.Small.{Small};
+
+// What an expression is bound to: the mark of its root, how many nodes it has, and how many bytes its leaves hold.
+pub struct Measured {
+    pub mark: rules::Mark,
+    pub nodes: usize,
+    pub content: usize,
+}
 
 pub enum Marked {
-    Is(rules::Mark),
+    Is(Measured),
     Refused(rules::Refusal),
 }
 
-// The mark of node i, as docs/IMAGES.md numbers the kinds: 9 parentheses, 10 IS NULL, 11 IS NOT NULL, 12 to 15 one operand, from 16 on two.
+// The answer of node i, as docs/IMAGES.md numbers the kinds: 9 parentheses, 10 IS NULL, 11 IS NOT NULL, 12 to 15 one operand, from 16 on two.
 pub fn mark(t: &[u8], e: &[u8], i: usize) -> Marked
     requires { ⌜ Markable (now t) (now e) i ⌝ }
     ensures { λ r. ⌜ Marks (now (t .entry)) (now (e .entry)) i r ⌝ }
@@ -35,6 +51,7 @@ pub fn mark(t: &[u8], e: &[u8], i: usize) -> Marked
     if 16 <= k {
         return mark_binary(t, e, i, k);
     }
+    // as inside, with no node of their own
     if k == 9 {
         return mark(t, e, i - 1);
     }
@@ -51,7 +68,7 @@ fn mark_null_test(t: &[u8], e: &[u8], i: usize, k: u8) -> Marked
     ensures { λ r. ⌜ Marks (now (t .entry)) (now (e .entry)) i r ⌝ }
 {
     match mark(t, e, i - 1) {
-        Marked::Is(_) => literal(ExpressionType::Bool, false),
+        Marked::Is(m) => null_test(m),
         Marked::Refused(r) => Marked::Refused(r),
     }
 }
@@ -85,5 +102,35 @@ fn mark_binary(t: &[u8], e: &[u8], i: usize, k: u8) -> Marked
             Marked::Refused(r) => Marked::Refused(r),
         },
         Marked::Refused(r) => Marked::Refused(r),
+    }
+}
+
+// ---- a whole expression
+
+pub enum Sized {
+    // the mark, and the length of the bound expression's image
+    Is(rules::Mark, usize),
+    Refused(rules::Refusal),
+}
+
+// The length of the bound expression's image: how many nodes it has, the nodes, and what its leaves hold.
+fn run_len(m: Measured) -> usize
+    requires { ⌜ Small m ⌝ }
+    ensures { λ r. ⌜ ((b : BoundExpr) → measured b ≡ m → r ≡ length (boundExpression .write b)) ⌝ }
+{
+    count_len() + node_len() * m.nodes + m.content
+}
+
+pub fn expression_size(t: &[u8], e: &[u8]) -> Sized
+    requires { ⌜ Is table (now t) × (Is expression (now e) × NamesWithin (now e)) ⌝ }
+    ensures { λ r. ⌜ Sizes (now (t .entry)) (now (e .entry)) r ⌝ }
+{
+    let root = expression::nodes(e) - 1;
+    match mark(t, e, root) {
+        Marked::Is(m) => {
+            let mark = m.mark;
+            Sized::Is(mark, run_len(m))
+        }
+        Marked::Refused(r) => Sized::Refused(r),
     }
 }

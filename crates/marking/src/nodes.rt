@@ -1,5 +1,6 @@
-// The marks of nodes with operands, by their kinds and the operands' marks.
+// Nodes with operands, by their kinds and what their operands are bound to.
 use crate::Marked;
+use crate::Measured;
 use crate::leaves::refuse;
 use expression::kind;
 use operators::Ruling;
@@ -8,6 +9,7 @@ use operators::unary;
 use rules::BoundBinaryOperator;
 use rules::BoundUnaryOperator;
 use rules::Class;
+use rules::ExpressionType;
 use rules::Mark;
 ghost use mathlib.Core.Path.{_≡_};
 ghost use mathlib.Core.Bool.{_&&_};
@@ -16,13 +18,18 @@ ghost use lib.Dec.{ltb, eqb};
 ghost use Rattle.expression.specs.Place.{nodeAt, unOf, binOf, HasNode};
 ghost use Rattle.rules.specs.Marking.{unaryRule, binaryRule};
 ghost use Rattle.rules.specs.Statements as statements;
-ghost use Rattle.marking.specs.Told.{ruled, verdictTold};
+ghost use Rattle.marking.specs.Told.{ruled, nullTold, overOne, overTwo};
+ghost use Rattle.marking.specs.Small.{Small};
 
-fn judge(v: Ruling) -> Marked
-    ensures { λ r. ⌜ r ≡ ruled v ⌝ }
+fn judge(v: Ruling, nodes: usize, content: usize) -> Marked
+    ensures { λ r. ⌜ r ≡ ruled nodes content v ⌝ }
 {
     match v {
-        Ruling::Fine(m) => Marked::Is(m),
+        Ruling::Fine(mark) => Marked::Is(Measured {
+            mark,
+            nodes,
+            content,
+        }),
         Ruling::Flaw(class) => refuse(class),
     }
 }
@@ -38,15 +45,32 @@ pub fn signs_number(e: &[u8], j: usize, k: u8) -> bool
     kind(e, j) == 2
 }
 
-// 12 is +, 13 -, 14 NOT, 15 another operator.
-pub fn one_operand(k: u8, m: Mark) -> Marked
-    requires { ⌜ (12 ≤ k) × (k < 16) ⌝ }
-    ensures { λ r. ⌜ r ≡ verdictTold (unaryRule (unOf k) m) ⌝ }
+pub fn null_test(m: Measured) -> Marked
+    requires { ⌜ Small m ⌝ }
+    ensures { λ r. ⌜ r ≡ nullTold m ⌝ }
 {
+    Marked::Is(Measured {
+        mark: Mark {
+            ty: ExpressionType::Bool,
+            nullable: false,
+        },
+        nodes: m.nodes + 1,
+        content: m.content,
+    })
+}
+
+// 12 is +, 13 -, 14 NOT, 15 another operator.
+pub fn one_operand(k: u8, m: Measured) -> Marked
+    requires { ⌜ ((12 ≤ k) × (k < 16)) × Small m ⌝ }
+    ensures { λ r. ⌜ r ≡ overOne (unaryRule (unOf k)) m ⌝ }
+{
+    let mark = m.mark;
+    let nodes = m.nodes + 1;
+    let content = m.content;
     match k {
-        12 => judge(unary(BoundUnaryOperator::Positive, m)),
-        13 => judge(unary(BoundUnaryOperator::Negative, m)),
-        14 => judge(unary(BoundUnaryOperator::Not, m)),
+        12 => judge(unary(BoundUnaryOperator::Positive, mark), nodes, content),
+        13 => judge(unary(BoundUnaryOperator::Negative, mark), nodes, content),
+        14 => judge(unary(BoundUnaryOperator::Not, mark), nodes, content),
         _ => refuse(Class::UnsupportedSql),
     }
 }
@@ -73,12 +97,16 @@ fn operator(k: u8) -> BoundBinaryOperator
 }
 
 // 29 is an operator that is none of the 13.
-pub fn two_operands(k: u8, a: Mark, b: Mark) -> Marked
-    requires { ⌜ (16 ≤ k) × (k < 30) ⌝ }
-    ensures { λ r. ⌜ r ≡ verdictTold (binaryRule (binOf k) a b) ⌝ }
+pub fn two_operands(k: u8, a: Measured, b: Measured) -> Marked
+    requires { ⌜ ((16 ≤ k) × (k < 30)) × (Small a × Small b) ⌝ }
+    ensures { λ r. ⌜ r ≡ overTwo (binaryRule (binOf k)) a b ⌝ }
 {
     if k == 29 {
         return refuse(Class::UnsupportedSql);
     }
-    judge(binary(operator(k), a, b))
+    let left = a.mark;
+    let right = b.mark;
+    let nodes = a.nodes + b.nodes + 1;
+    let content = a.content + b.content;
+    judge(binary(operator(k), left, right), nodes, content)
 }

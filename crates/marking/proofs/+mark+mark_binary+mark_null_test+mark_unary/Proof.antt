@@ -7,7 +7,8 @@ use native.Mathlib.Omega.{arith}
 use borrow.Author.Needs.{needs}
 use borrow.Fn.Kinds.{In}
 use borrow.Fn.PlainCycle.{Measures, is, falls, and}
-use Rattle.marking.proofs.Places.{last, first, kinds}
+use Rattle.marking.specs.Small.{small}
+use Rattle.marking.proofs.Places.{known, last, first, kinds}
 use Rattle.marking.proofs.Steps.{literal-says, parens-says, null-says, operator-says, left-says, bin-says}
 use Rattle.marking.proofs.mark.Reads as mark
 use Rattle.marking.proofs.mark.Kinds as mark-kinds
@@ -29,7 +30,7 @@ use Rattle.marking.proofs.leaves.number.Reads as number-reads
 use Rattle.marking.proofs.nodes.one_operand.Reads as one-operand-reads
 use Rattle.marking.proofs.nodes.signs_number.Reads as signs-number-reads
 use Rattle.marking.proofs.nodes.two_operands.Reads as two-operands-reads
-use Rattle.marking.proofs.leaves.literal.Reads as literal-reads
+use Rattle.marking.proofs.nodes.null_test.Reads as null-test-reads
 use Rattle.marking.proofs.+mark+mark_binary+mark_null_test+mark_unary.{statement}
 use Rattle.marking.proofs.+mark+mark_binary+mark_null_test+mark_unary.Tie.{close}
 
@@ -79,7 +80,7 @@ module _ (t : ℕ) where
   mark-binary-calls = (span-reads.Asked, span-reads.Learnt, mark-below, mark.Post, two-operands-reads.Asked, two-operands-reads.Learnt)
 
   abbrev mark-null-test-calls : mark-null-test-lts.Claims
-  mark-null-test-calls = (mark-below, mark.Post, literal-reads.Asked, literal-reads.Learnt)
+  mark-null-test-calls = (mark-below, mark.Post, null-test-reads.Asked, null-test-reads.Learnt)
 
   abbrev mark-unary-calls : mark-unary-lts.Claims
   mark-unary-calls = (signs-number-reads.Asked, signs-number-reads.Learnt, text-reads.Asked, text-reads.Learnt, number-reads.Asked, number-reads.Learnt, mark-below, mark.Post, one-operand-reads.Asked, one-operand-reads.Learnt)
@@ -170,7 +171,12 @@ module _ (t : ℕ) where
   mark-binary-two-operands-requires : mark-binary-lts.Need-two-operands-requires mark-binary-calls mark-binary-at mark-binary.Post
   mark-binary-two-operands-requires c κs =
       let s = c .before .before .before .before .before .before .before .before .before .before .before in
-      (s .pre .1 .1 .1, kinds (c .before .before .before .before .before .before .before .before .before .shared-slice-known2 .given) (s .pre .1 .0) _ (s .pre .1 .1 .0))
+      let b = c .before .before .before .before .before .before .before .before .before .shared-slice-known2 .given in
+      let l = first b (s .pre .1 .0) _ (s .pre .1 .1 .0) (s .pre .1 .1 .1) _ (c .before .before .before .before .before .before .before .before .span .ensures) in
+      let o = last b (s .pre .1 .0) _ (s .pre .1 .1 .0) (omega arith) in (
+        (s .pre .1 .1 .1, kinds b (s .pre .1 .0) _ (s .pre .1 .1 .0)),
+        (small (known b) (l .1) (c .before .before .before .before .before .before .before .mark .ensures) (c .before .before .before .before .before .a .given .1), small (known b) (o .1) (c .before .before .before .mark2 .ensures) (c .before .b .given .1)),
+      )
 
   mark-binary-enum-known-r : mark-binary-lts.Need-enum-known-r mark-binary-calls mark-binary-at mark-binary.Post
   mark-binary-enum-known-r c = search needs
@@ -203,19 +209,22 @@ module _ (t : ℕ) where
       let s = c .before .before in
       let o = last (c .shared-slice-known2 .given) (s .pre .1 .0) _ (s .pre .1 .1 .0) (omega arith) in (omega (arith, o .0), o .1)
 
-  mark-null-test-enum-told : mark-null-test-lts.Need-enum-told mark-null-test-calls mark-null-test-at mark-null-test.Post
-  mark-null-test-enum-told c = search needs
+  mark-null-test-enum-known-m : mark-null-test-lts.Need-enum-known-m mark-null-test-calls mark-null-test-at mark-null-test.Post
+  mark-null-test-enum-known-m c = search needs
 
-  mark-null-test-literal-requires : mark-null-test-lts.Need-literal-requires mark-null-test-calls mark-null-test-at mark-null-test.Post
-  mark-null-test-literal-requires c κs = search needs
+  mark-null-test-null-test-requires : mark-null-test-lts.Need-null-test-requires mark-null-test-calls mark-null-test-at mark-null-test.Post
+  mark-null-test-null-test-requires c κs =
+      let s = c .before .before .before .before .before .before in
+      let b = c .before .before .before .before .shared-slice-known2 .given in
+      small (known b) (last b (s .pre .1 .0) _ (s .pre .1 .1 .0) (omega arith) .1) (c .before .before .before .mark .ensures) (c .before .m .given .1)
 
   mark-null-test-enum-known-r : mark-null-test-lts.Need-enum-known-r mark-null-test-calls mark-null-test-at mark-null-test.Post
   mark-null-test-enum-known-r c = search needs
 
   mark-null-test-returns : mark-null-test-lts.Need-returns mark-null-test-calls mark-null-test-at mark-null-test.Post
   mark-null-test-returns c =
-      let s = c .before .before .before .before .before .before in
-      null-says (s .args .t .now) (s .args .e .now) (s .args .i) _ (s .pre .1 .1 .0) _ (s .pre .1 .1 .1 .0) (s .pre .1 .1 .1 .1) _ (c .before .before .before .mark .ensures) (rw (c .before .enum-told .given .1) (c .literal .ensures))
+      let s = c .before .before .before .before .before .before .before in
+      null-says (s .args .t .now) (s .args .e .now) (s .args .i) _ (s .pre .1 .1 .0) _ (s .pre .1 .1 .1 .0) (s .pre .1 .1 .1 .1) _ (c .before .before .before .before .mark .ensures) (rw (c .before .before .m .given .1) (c .null-test .ensures))
 
   mark-null-test-returns-2 : mark-null-test-lts.Need-returns-2 mark-null-test-calls mark-null-test-at mark-null-test.Post
   mark-null-test-returns-2 c =
@@ -256,7 +265,8 @@ module _ (t : ℕ) where
   mark-unary-one-operand-requires : mark-unary-lts.Need-one-operand-requires mark-unary-calls mark-unary-at mark-unary.Post
   mark-unary-one-operand-requires c κs =
       let s = c .before .before .before .before .before .before .before .before in
-      s .pre .1 .1 .1
+      let b = c .before .before .before .before .before .before .shared-slice-known2 .given in
+      (s .pre .1 .1 .1, small (known b) (last b (s .pre .1 .0) _ (s .pre .1 .1 .0) (omega arith) .1) (c .before .before .before .mark .ensures) (c .before .m .given .1))
 
   mark-unary-enum-known-r : mark-unary-lts.Need-enum-known-r mark-unary-calls mark-unary-at mark-unary.Post
   mark-unary-enum-known-r c = search needs
@@ -276,5 +286,5 @@ pub +mark+mark-binary+mark-null-test+mark-unary-spec : {M : Type 1} → statemen
     close μ-mark μ-mark-binary μ-mark-null-test μ-mark-unary
     (λ t. mark-lts.spec (mark-calls t) (mark-at t) mark.Post (mark-kind-requires t) (mark-leaf-requires t) (mark-returns t) (mark-mark-binary-requires t) (mark-returns-2 t) (mark-sub-mark t) (mark-mark-requires t) (mark-returns-3 t) (mark-mark-null-test-requires t) (mark-returns-4 t) (mark-mark-unary-requires t) (mark-returns-5 t))
     (λ t. mark-binary-lts.spec (mark-binary-calls t) (mark-binary-at t) mark-binary.Post (mark-binary-sub-right t) (mark-binary-span-requires t) (mark-binary-sub-left t) (mark-binary-mark-requires t) (mark-binary-enum-known-a t) (mark-binary-mark-requires-2 t) (mark-binary-enum-known-b t) (mark-binary-two-operands-requires t) (mark-binary-enum-known-r t) (mark-binary-enum-known-r-2 t) (mark-binary-returns t) (mark-binary-returns-2 t) (mark-binary-returns-3 t))
-    (λ t. mark-null-test-lts.spec (mark-null-test-calls t) (mark-null-test-at t) mark-null-test.Post (mark-null-test-sub-mark t) (mark-null-test-mark-requires t) (mark-null-test-enum-told t) (mark-null-test-literal-requires t) (mark-null-test-enum-known-r t) (mark-null-test-returns t) (mark-null-test-returns-2 t))
+    (λ t. mark-null-test-lts.spec (mark-null-test-calls t) (mark-null-test-at t) mark-null-test.Post (mark-null-test-sub-mark t) (mark-null-test-mark-requires t) (mark-null-test-enum-known-m t) (mark-null-test-null-test-requires t) (mark-null-test-enum-known-r t) (mark-null-test-returns t) (mark-null-test-returns-2 t))
     (λ t. mark-unary-lts.spec (mark-unary-calls t) (mark-unary-at t) mark-unary.Post (mark-unary-sub-below t) (mark-unary-signs-number-requires t) (mark-unary-text-requires t) (mark-unary-number-requires t) (mark-unary-returns t) (mark-unary-mark-requires t) (mark-unary-enum-known-m t) (mark-unary-one-operand-requires t) (mark-unary-enum-known-r t) (mark-unary-returns-2 t) (mark-unary-returns-3 t))

@@ -1,10 +1,9 @@
 -- `leaves::column` meets its contract.
 -- Assumes nothing.
 use mathlib.Core.Path.{_∙_}
-use Rattle.rules.specs.Lookup.{columnByName}
-use Rattle.rules.specs.Names.{canonical}
+use native.Mathlib.Omega.{arith}
 use Rattle.names.specs.Compared.{named}
-use Rattle.marking.proofs.Looked.{column-is, column-none}
+use Rattle.marking.proofs.Looked.{column-span, column-is, column-none}
 use borrow.Author.Needs.{needs}
 use Rattle.marking.proofs.leaves.column.Statement.{statement}
 use Rattle.marking.proofs.leaves.column.Tie as tie
@@ -18,6 +17,19 @@ enum-known-c c = search needs
 column-mark-requires : tie.Need-column-mark-requires
 column-mark-requires c κs = search needs
 
+sub-column-ref-len : tie.Need-sub-column-ref-len
+sub-column-ref-len c =
+    let s = c .before .before .before .before .before .before .before .before in
+    let a = s .args in
+    column-span (a .t .now) (named (a .quoted) (a .name .now)) _ (c .before .before .before .before .before .find-column .ensures) (s .pre .0) _ (c .before .before .before .c .given .1) .0
+
+column-ref-len-requires : tie.Need-column-ref-len-requires
+column-ref-len-requires c κs =
+    let s = c .before .before .before .before .before .before .before .before in
+    let a = s .args in
+    let l = column-span (a .t .now) (named (a .quoted) (a .name .now)) _ (c .before .before .before .before .before .find-column .ensures) (s .pre .0) _ (c .before .before .before .c .given .1) in
+    omega (arith, l .1, s .pre .1)
+
 enum-told : tie.Need-enum-told
 enum-told c = search needs
 
@@ -26,13 +38,14 @@ refuse-requires c κs = search needs
 
 returns : tie.Need-returns
 returns c v h =
-    let a = c .before .before .before .before .before .before .before .args in
-    column-is (a .t .now) (columnByName v (canonical (named (a .quoted) (a .name .now)))) _ (c .before .before .before .before .find-column .ensures v h) _ (c .before .before .c .given .1) _ (c .column-mark .ensures)
+    let a = c .before .before .before .before .before .before .before .before .before .args in
+    column-is (a .t .now) (named (a .quoted) (a .name .now)) _ (c .before .before .before .before .before .before .find-column .ensures) v h _ (c .before .before .before .before .c .given .1) _
+    (c .before .before .column-mark .ensures) _ (c .column-ref-len .ensures .1)
 
 returns-2 : tie.Need-returns-2
 returns-2 c v h =
     let a = c .before .before .before .before .before .before .args in
-    c .refuse .ensures ∙ column-none (a .t .now) (columnByName v (canonical (named (a .quoted) (a .name .now)))) _ (c .before .before .before .find-column .ensures v h) (c .before .enum-told .given .1)
+    c .refuse .ensures ∙ column-none (a .t .now) (named (a .quoted) (a .name .now)) _ (c .before .before .before .find-column .ensures) v h (c .before .enum-told .given .1)
 
 pub column-spec : {M : Type 1} → statement M
 column-spec =
@@ -41,6 +54,8 @@ column-spec =
     find-column-requires
     enum-known-c
     column-mark-requires
+    sub-column-ref-len
+    column-ref-len-requires
     enum-told
     refuse-requires
     returns

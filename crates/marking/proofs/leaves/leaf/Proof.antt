@@ -1,11 +1,16 @@
 -- `leaves::leaf` meets its contract: in each arm the kind is known.
 -- Assumes nothing.
-use mathlib.Core.Path.{_≡_}
+use mathlib.Core.Path.{_≡_, refl, sym, ap}
+use mathlib.Core.Bool.{true, false}
 use Prim.Native.Nat.{_≤_}
 use native.Mathlib.Omega.{arith}
+use lib.ListN.{length}
+use Rattle.rules.specs.Bound.{Value}
 use Rattle.rules.specs.Marking.{leafRule}
-use Rattle.expression.specs.Place.{leafOf}
+use Rattle.expression.specs.Place.{nodeAt, leafOf}
+use Rattle.marking.specs.Small.{short-text}
 use Rattle.marking.proofs.Arms.{past, least, only}
+use Rattle.marking.proofs.Places.{known}
 use Rattle.marking.proofs.Steps.{leaf-says}
 use borrow.Author.Needs.{needs}
 use Rattle.marking.proofs.leaves.leaf.Statement.{statement}
@@ -35,8 +40,13 @@ text-requires-3 c κs = search needs
 number-requires : tie.Need-number-requires
 number-requires c κs = search needs
 
+text-requires-4 : tie.Need-text-requires-4
+text-requires-4 c κs = search needs
+
 literal-requires : tie.Need-literal-requires
-literal-requires c κs = search needs
+literal-requires c κs =
+    let s = c .before .before .before .before in
+    omega (arith, ap length (c .text4 .ensures), short-text (known (c .before .before .shared-slice-known2 .given)) (s .pre .0 .node))
 
 literal-requires-2 : tie.Need-literal-requires-2
 literal-requires-2 c κs = search needs
@@ -77,30 +87,31 @@ returns-3 c =
 returns-4 : tie.Need-returns-4
 unfolding leafOf leafRule
 returns-4 c =
-    let a = c .before .before .before .before .args in
-    let p = c .before .before .before .before .pre in
-    leaf-says (a .t .now) (a .e .now) (a .i) (a .k) (p .1 .0) _ (p .1 .1) (λ v h. rw (c .before .match .keys4) (c .literal .ensures))
+    let a = c .before .before .before .before .before .args in
+    let p = c .before .before .before .before .before .pre in
+    leaf-says (a .t .now) (a .e .now) (a .i) (a .k) (p .1 .0) _ (p .1 .1) (λ v h.
+    rw (c .before .before .match .keys4) (c .literal .ensures (Value.text ((nodeAt (a .e .now) (a .i)) .text)) refl (sym (ap length (c .before .text4 .ensures)))))
 
 returns-5 : tie.Need-returns-5
 unfolding leafOf leafRule
 returns-5 c =
     let a = c .before .before .before .before .args in
     let p = c .before .before .before .before .pre in
-    leaf-says (a .t .now) (a .e .now) (a .i) (a .k) (p .1 .0) _ (p .1 .1) (λ v h. rw (c .before .match .keys5) (c .literal2 .ensures))
+    leaf-says (a .t .now) (a .e .now) (a .i) (a .k) (p .1 .0) _ (p .1 .1) (λ v h. rw (c .before .match .keys5) (c .literal2 .ensures (Value.bool true) refl refl))
 
 returns-6 : tie.Need-returns-6
 unfolding leafOf leafRule
 returns-6 c =
     let a = c .before .before .before .before .args in
     let p = c .before .before .before .before .pre in
-    leaf-says (a .t .now) (a .e .now) (a .i) (a .k) (p .1 .0) _ (p .1 .1) (λ v h. rw (c .before .match .keys6) (c .literal3 .ensures))
+    leaf-says (a .t .now) (a .e .now) (a .i) (a .k) (p .1 .0) _ (p .1 .1) (λ v h. rw (c .before .match .keys6) (c .literal3 .ensures (Value.bool false) refl refl))
 
 returns-7 : tie.Need-returns-7
 unfolding leafOf leafRule
 returns-7 c =
     let a = c .before .before .before .before .args in
     let p = c .before .before .before .before .pre in
-    leaf-says (a .t .now) (a .e .now) (a .i) (a .k) (p .1 .0) _ (p .1 .1) (λ v h. rw (c .before .match .keys7) (c .literal4 .ensures))
+    leaf-says (a .t .now) (a .e .now) (a .i) (a .k) (p .1 .0) _ (p .1 .1) (λ v h. rw (c .before .match .keys7) (c .literal4 .ensures Value.null refl refl))
 
 returns-8 : tie.Need-returns-8
 unfolding leafOf leafRule
@@ -129,6 +140,7 @@ leaf-spec =
     column-requires-2
     text-requires-3
     number-requires
+    text-requires-4
     literal-requires
     literal-requires-2
     literal-requires-3

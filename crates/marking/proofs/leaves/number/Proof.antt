@@ -25,7 +25,7 @@ refuse-requires c κs = search needs
 returns : tie.Need-returns
 returns c =
     let a = c .before .before .before .before .before .args in
-    c .literal .ensures ∙ number-is (integerLiteral (a .negative) (a .s .now)) _ (sym (c .before .before .before .integer-literal .ensures) ∙ c .before .enum-told .given .1)
+    number-is (integerLiteral (a .negative) (a .s .now)) _ (sym (c .before .before .before .integer-literal .ensures) ∙ c .before .enum-told .given .1) (c .literal .ensures)
 
 returns-2 : tie.Need-returns-2
 returns-2 c =

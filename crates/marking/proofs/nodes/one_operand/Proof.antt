@@ -1,6 +1,7 @@
 -- `nodes::one_operand` meets its contract: in each arm the kind is known.
 -- Assumes nothing.
 use mathlib.Core.Path.{_≡_, _∙_}
+use Prim.Native.Nat.{_+_}
 use native.Mathlib.Omega.{arith}
 use Rattle.rules.specs.declared.BoundUnaryOperator.the-variants.{Positive, Negative, Not}
 use Rattle.rules.specs.Marking.{unaryRule}
@@ -10,6 +11,9 @@ use Rattle.marking.proofs.Told.{ruled-told}
 use borrow.Author.Needs.{needs}
 use Rattle.marking.proofs.nodes.one_operand.Statement.{statement}
 use Rattle.marking.proofs.nodes.one_operand.Tie as tie
+
+add-nodes : tie.Need-add-nodes
+add-nodes c = search needs
 
 unary-requires : tie.Need-unary-requires
 unary-requires c κs = search needs
@@ -35,26 +39,30 @@ refuse-requires c κs = search needs
 returns : tie.Need-returns
 unfolding unOf
 returns c =
-    c .judge .ensures ∙ rw (c .before .unary .ensures, c .before .before .match .keys1) (ruled-told (unaryRule (unary Positive) (c .before .before .before .args .m)))
+    let m = c .before .before .before .before .before .args .m in
+    c .judge .ensures ∙ rw (c .before .unary .ensures, c .before .before .match .keys1) (ruled-told (m .nodes + 1) (m .content) (unaryRule (unary Positive) (m .mark)))
 
 returns-2 : tie.Need-returns-2
 unfolding unOf
 returns-2 c =
-    c .judge2 .ensures ∙ rw (c .before .unary2 .ensures, c .before .before .match .keys2) (ruled-told (unaryRule (unary Negative) (c .before .before .before .args .m)))
+    let m = c .before .before .before .before .before .args .m in
+    c .judge2 .ensures ∙ rw (c .before .unary2 .ensures, c .before .before .match .keys2) (ruled-told (m .nodes + 1) (m .content) (unaryRule (unary Negative) (m .mark)))
 
 returns-3 : tie.Need-returns-3
 unfolding unOf
 returns-3 c =
-    c .judge3 .ensures ∙ rw (c .before .unary3 .ensures, c .before .before .match .keys3) (ruled-told (unaryRule (unary Not) (c .before .before .before .args .m)))
+    let m = c .before .before .before .before .before .args .m in
+    c .judge3 .ensures ∙ rw (c .before .unary3 .ensures, c .before .before .match .keys3) (ruled-told (m .nodes + 1) (m .content) (unaryRule (unary Not) (m .mark)))
 
 returns-4 : tie.Need-returns-4
 unfolding unOf unaryRule
-returns-4 c = let e : c .before .before .args .k ≡ 15 = omega arith in c .refuse .ensures ∙ rw e
+returns-4 c = let e : c .before .before .before .before .args .k ≡ 15 = omega arith in c .refuse .ensures ∙ rw e
 
 pub one-operand-spec : {M : Type 1} → statement M
 one-operand-spec =
     tie.close
     (tie.spec
+    add-nodes
     unary-requires
     judge-requires
     unary-requires-2

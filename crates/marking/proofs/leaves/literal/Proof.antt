@@ -1,0 +1,19 @@
+-- `leaves::literal` meets its contract.
+-- Assumes nothing.
+use mathlib.Core.Path.{ap}
+use Prim.Native.Nat.{ℕ}
+use Rattle.rules.specs.Lookup as lookup
+use Rattle.marking.specs.declared.Marked.the-variants as marked
+use Rattle.marking.specs.Told.{run}
+use borrow.Author.Needs.{needs}
+use Rattle.marking.proofs.leaves.literal.Statement.{statement}
+use Rattle.marking.proofs.leaves.literal.Tie as tie
+
+literal-len-requires : tie.Need-literal-len-requires
+literal-len-requires c κs = search needs
+
+returns : tie.Need-returns
+returns c v h q = let a = c .before .args in ap (λ (k : ℕ). marked.Is (run 1 k (lookup.mark (a .ty) (a .nullable)))) (c .literal-len .ensures v h q)
+
+pub literal-spec : {M : Type 1} → statement M
+literal-spec = tie.close (tie.spec literal-len-requires returns)
