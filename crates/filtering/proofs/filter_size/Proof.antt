@@ -1,0 +1,65 @@
+-- `filtering::filter_size` meets its contract.
+-- Assumes nothing.
+use mathlib.Core.Path.{_≡_, ap, _∙_}
+use Rattle.bound.specs.Expression.{boundExpression}
+use Rattle.resolving.specs.Steps.{sized-given, sized-refused}
+use Rattle.rules.specs.Answers.{fine, flaw}
+use Rattle.rules.specs.Bound.{markOf}
+use Rattle.rules.specs.Fits.{isCondition}
+use Rattle.filtering.specs.Expressions.{size-is, size-off, fit-fine, fit-flaw}
+use Rattle.filtering.specs.Filters.{filter-off, filter-flaw, filter-on}
+use borrow.Author.Needs.{needs}
+use Rattle.filtering.proofs.filter_size.Statement.{statement}
+use Rattle.filtering.proofs.filter_size.Tie as tie
+
+expression-size-requires : tie.Need-expression-size-requires
+expression-size-requires c κs = search needs
+
+enum-known-mark : tie.Need-enum-known-mark
+enum-known-mark c = search needs
+
+condition-requires : tie.Need-condition-requires
+condition-requires c κs = search needs
+
+enum-told : tie.Need-enum-told
+enum-told c = search needs
+
+enum-known-class : tie.Need-enum-known-class
+enum-known-class c = search needs
+
+refuse-requires : tie.Need-refuse-requires
+refuse-requires c κs = search needs
+
+enum-known-r : tie.Need-enum-known-r
+enum-known-r c = search needs
+
+returns : tie.Need-returns
+returns c = λ v x hv hx.
+    let m = size-is (c .before .before .before .before .before .before .expression-size .ensures v hv x hx) (c .before .before .before .before .mark .given .1) in
+    let f : isCondition (markOf (m .value)) ≡ fine tt = ap isCondition (m .mark) ∙ fit-fine (c .before .before .condition .ensures) (c .enum-told .given .1) in
+    sized-given boundExpression (filter-on v x (m .gives) f) (m .long)
+
+returns-2 : tie.Need-returns-2
+returns-2 c = λ v x hv hx.
+    let m = size-is (c .before .before .before .before .before .before .before .before .expression-size .ensures v hv x hx) (c .before .before .before .before .before .before .mark .given .1) in
+    let f : isCondition (markOf (m .value)) ≡ flaw _ = ap isCondition (m .mark) ∙ fit-flaw (c .before .before .before .before .condition .ensures) (c .before .before .class .given .1) in
+    c .refuse .ensures ∙ sized-refused boundExpression (filter-flaw v x (m .gives) f)
+
+returns-3 : tie.Need-returns-3
+returns-3 c = λ v x hv hx.
+    sized-refused boundExpression (filter-off v x (size-off (c .before .before .before .expression-size .ensures v hv x hx) (c .before .r .given .1)))
+
+pub filter-size-spec : {M : Type 1} → statement M
+filter-size-spec =
+    tie.close
+    (tie.spec
+    expression-size-requires
+    enum-known-mark
+    condition-requires
+    enum-told
+    enum-known-class
+    refuse-requires
+    enum-known-r
+    returns
+    returns-2
+    returns-3)
