@@ -16,7 +16,7 @@ use Rattle.rules.specs.declared.BoundBinaryOperator.{BoundBinaryOperator}
 use Rattle.rules.specs.Bound.{Marked, BoundLeaf, BoundUnary, BoundExpr}
 use Rattle.rules.specs.Statements.{Expr}
 use Rattle.bundle.specs.Decides.{and-of}
-use Rattle.expression.specs.Place.{Node, nodeCount, nodeAt, leafKind, unKind, binKind, top, Root}
+use Rattle.expression.specs.Place.{Node, nodeCount, nodeAt, leafKind, unKind, binKind, top, Root, IsImage, HasNode}
 use Rattle.expression.specs.Heads.{leaf-range, un-range, bin-range}
 use Rattle.expression.specs.Trees.{kindOf, size-pos, root-span}
 use Rattle.expression.specs.Laws.{placed}
@@ -51,7 +51,7 @@ module _ (v : ℕ → Node) (i k : ℕ) (is : k ≡ (v i) .kind) where
   unfolding weight
   unsigned-weight h f = rw (← is, ne-eqb k 9 (λ z. omega arith), le-ltb k 12 h, f)
 
-weight-few : (v : ℕ → Node) (i : ℕ) → weight v i ≤ 1
+pub weight-few : (v : ℕ → Node) (i : ℕ) → weight v i ≤ 1
 unfolding weight
 weight-few v i = go (eqb ((v i) .kind) 9) (ltb ((v i) .kind) 12) (signs ((v i) .kind) (v (i - 1)))
   where
@@ -151,3 +151,38 @@ pub all-counted : {t e : List ℕ} {b : BoundExpr} → Bytes e → Bind t e b �
 all-counted {t} {e} {b} y h =
     let p = placed y (h .reads) in
     rw (← p .1) (counted t e (nodeCount e - 1) (h .tree) (p .0) b (bind-root y h) 0 (omega (arith, p .1, size-pos (h .tree))))
+
+-- ---- the loop
+
+-- the first i of n nodes are counted
+pub record Counting (e : List ℕ) (n sum i : ℕ) : Type 0 where
+  pub image : IsImage e
+  pub count : n ≡ nodeCount e
+  pub here : i ≤ n
+  pub is : sum ≡ total (nodeAt e) 0 i
+
+module _ {e : List ℕ} {n : ℕ} where
+  pub counting : IsImage e → n ≡ nodeCount e → Counting e n 0 0
+  unfolding total
+  counting h c = record { image = h; count = c; here = omega arith; is = refl }
+
+  pub counting-node : {sum i : ℕ} → Counting e n sum i → i < n → HasNode e i
+  counting-node k l = record { image = k .image; within = omega (arith, k .count) }
+
+  pub counting-few : {sum i : ℕ} → Counting e n sum i → sum ≤ i
+  counting-few {i = i} k = omega (arith, k .is, total-few (nodeAt e) 0 i)
+
+  pub counting-on : {sum i w : ℕ} → Counting e n sum i → i < n → w ≡ weight (nodeAt e) i → Counting e n (sum + w) (i + 1)
+  counting-on {sum} {i} {w} k l h =
+      let z : 0 + i ≡ i = omega arith in
+      record {
+        image = k .image;
+        count = k .count;
+        here = omega arith;
+        is = omega (arith, k .is, total-one (nodeAt e) 0 i, h, ap (weight (nodeAt e)) z);
+      }
+
+  pub counting-all : {sum i : ℕ} → Bytes e → Counting e n sum i → n ≤ i → (t : List ℕ) (b : BoundExpr) → Bind t e b → sum ≡ size b
+  counting-all {i = i} y k l t b h =
+      let z : i ≡ nodeCount e = omega (arith, k .here, k .count) in
+      k .is ∙ ap (total (nodeAt e) 0) z ∙ all-counted y h

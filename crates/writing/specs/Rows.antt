@@ -12,7 +12,7 @@ use Rattle.rules.specs.declared.BoundBinaryOperator.{BoundBinaryOperator}
 use Rattle.rules.specs.Bound.{Marked, BoundLeaf, BoundUnary, BoundExpr, markOf}
 use Rattle.rules.specs.Marking.{operatorNo}
 use Rattle.bound.specs.Expression.{unaryNo}
-use Rattle.bound.specs.Nodes.{nodeBytes}
+use Rattle.bound.specs.Nodes.{nodeBytes, node-length}
 use Rattle.bound.specs.Runs.{kindNo, leafBytes, contentBytes, contentLength, rowsFrom, rootRow}
 use Rattle.bound.specs.Beside.{Beside, beside-none, beside-first, beside-second, beside-then}
 use Rattle.writing.specs.declared.Bound.{Bound}
@@ -23,6 +23,13 @@ use Rattle.writing.specs.Leaves.{Put}
 pub record Rooted (kind : ℕ) (mark : Mark) (nodes from content : ℕ) (o : List ℕ) (row : ℕ) (r : Bound) (o′ : List ℕ) : Type 0 where
   pub is : r ≡ record { mark = mark; nodes = nodes + 1; content = content }
   pub wrote : Wrote o (row + 11 * nodes) (nodeBytes kind mark (nodes + 1) (from + content)) (row + 11 * (nodes + 1)) o′
+
+pub rooted : {kind nodes from content row j : ℕ} {mark : Mark} {o o′ : List ℕ} {r : Bound} → r ≡ record { mark = mark; nodes = nodes + 1; content = content }
+    → Wrote o (row + 11 * nodes) (nodeBytes kind mark (nodes + 1) (from + content)) j o′ → Rooted kind mark nodes from content o row r o′
+rooted {kind = kind} {nodes = nodes} {from = from} {content = content} {mark = mark} e w = record {
+  is = e;
+  wrote = record { end = omega (arith, node-length kind mark (nodes + 1) (from + content)); is = w .is };
+}
 
 -- the rows of b are written from `row` on, and its contents from `content` on
 abbrev pub Sides : BoundExpr → ℕ → List ℕ → ℕ → ℕ → List ℕ → Type 0
