@@ -44,7 +44,7 @@ use Rattle.writing.specs.declared.Leaf.{Leaf}
 use Rattle.writing.specs.Binds.{Ruled, Numbered}
 use Rattle.writing.specs.Leaves.{Columned, literalAt, LeafRoom, Puts}
 
-fine-same : {A : Type 0} {a b : A} → fine a ≡ fine b → a ≡ b
+pub fine-same : {A : Type 0} {a b : A} → fine a ≡ fine b → a ≡ b
 fine-same h = cc
 
 -- ---- literals

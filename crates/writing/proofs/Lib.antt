@@ -1,3 +1,4 @@
 pub mod Arms
 pub mod Known
 pub mod Contents
+pub mod Steps

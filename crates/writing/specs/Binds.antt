@@ -1,6 +1,6 @@
 -- What a node of an expression is bound to over a table, and what its operands are bound to then.
 -- Assumes nothing.
-use mathlib.Core.Path.{_≡_, _∙_, refl, sym, ap}
+use mathlib.Core.Path.{_≡_, _∙_, refl, sym, ap, ap₂}
 use mathlib.Core.Bool.{Bool, true, false}
 use mathlib.Core.List.{List}
 use mathlib.Core.Option.{Option, some, none}
@@ -35,10 +35,11 @@ use Rattle.rules.specs.Tables.{TableSchema}
 use Rattle.rules.specs.Theorems.Answered.{bind-given, never-given, never-fine}
 use Rattle.catalogue.specs.Layout.{table}
 use Rattle.bundle.specs.Decides.{and-of}
-use Rattle.bundle.specs.Held.{Holds}
+use Rattle.bundle.specs.Held.{Holds, held-once}
 use Rattle.expression.specs.Expression.{expression}
 use Rattle.expression.specs.Place.{nodeCount, nodeAt, leafOf, unKind, unOf, binKind, binOf, Root}
 use Rattle.expression.specs.Heads.{un-kind, bin-kind}
+use Rattle.expression.specs.Trees.{root-unique}
 use Rattle.expression.specs.Laws.{placed, leaf-at, un-at, bin-at, kind-range}
 use Rattle.bound.specs.Expression.{unaryNo}
 use Rattle.writing.specs.Signs.{signs, signed, unsigned}
@@ -65,6 +66,13 @@ bind-root y h = record { schema = h .schema; holds = h .holds; tree = h .tree; r
 
 given-same : {A : Type 0} {a b : A} → given a ≡ given b → a ≡ b
 given-same h = cc
+
+-- a node is bound to one
+pub binds-once : {t e : List ℕ} {i : ℕ} {b c : BoundExpr} → Binds t e i b → Binds t e i c → b ≡ c
+binds-once {e = e} {i = i} h g =
+    let v : h .schema ≡ g .schema = held-once table (h .holds) (g .holds) in
+    let x : h .tree ≡ g .tree = root-unique (nodeAt e) i (h .tree) (g .tree) (h .root) (g .root) in
+    given-same (sym (h .bound) ∙ ap₂ (λ (s : TableSchema) (y : Expr). bindExpression s y) v x ∙ g .bound)
 
 -- ---- a leaf, and a sign with its number
 

@@ -46,13 +46,17 @@ Writes t e i from o row content r o′ = (b : BoundExpr) → Binds t e i b → L
 
 module _ {t e : List ℕ} {i : ℕ} {o : List ℕ} {row content from : ℕ} (w : Writable t e i o row content from) where
   -- a leaf
-  pub leaf-room : {P : Marked BoundLeaf → Type 0} → LeafBinds P (w .whole) → LeafRoom P o content
-  unfolding contentLength
-  leaf-room l = record { label = l .label; rule = l .rule; room = rw (l .is) at (w .contents) }
+  module _ {P : Marked BoundLeaf → Type 0} (l : LeafBinds P (w .whole)) where
+    pub leaf-row : row + 11 ≤ content
+    unfolding size
+    leaf-row = rw (l .is) at (w .rows)
 
-  pub leaf-row : {P : Marked BoundLeaf → Type 0} → LeafBinds P (w .whole) → row + 11 ≤ content
-  unfolding size
-  leaf-row l = rw (l .is) at (w .rows)
+    pub leaf-content : content + length (leafBytes (l .label .kind)) ≤ length o
+    unfolding contentLength
+    leaf-content = rw (l .is) at (w .contents)
+
+    pub leaf-room : LeafRoom P o content
+    leaf-room = record { label = l .label; rule = l .rule; room = leaf-content }
 
   -- one operand
   module _ {k code : ℕ} (u : UnBinds t e i k code (w .whole)) where
