@@ -2,3 +2,4 @@ pub mod Arms
 pub mod Known
 pub mod Contents
 pub mod Steps
+pub mod Whole

@@ -30,7 +30,7 @@ use Rattle.writing.specs.Writes.{Writable, Writes, leaf-row, leaf-conten
 use Rattle.writing.specs.Fine.{IsFine}
 use Rattle.writing.proofs.Contents.{fine-same}
 
-wrote-long : {o o′ x : List ℕ} {i j : ℕ} → Wrote o i x j o′ → length o′ ≡ length o
+pub wrote-long : {o o′ x : List ℕ} {i j : ℕ} → Wrote o i x j o′ → length o′ ≡ length o
 wrote-long {o} {x = x} {i = i} w = ap length (w .is) ∙ length-sets o i x
 
 module _ {b : BoundExpr} {from : ℕ} {o : List ℕ} {row content : ℕ} {r : Bound} {o′ : List ℕ} (x : Laid b from o row content r o′) where
@@ -40,7 +40,7 @@ module _ {b : BoundExpr} {from : ℕ} {o : List ℕ} {row content : ℕ} {r : Bo
   laid-nodes : r .nodes ≡ size b
   laid-nodes = ap (λ (s : Bound). s .nodes) (x .is)
 
-  laid-content : r .content ≡ contentLength b
+  pub laid-content : r .content ≡ contentLength b
   laid-content = ap (λ (s : Bound). s .content) (x .is)
 
 -- the rule of IS NULL and IS NOT NULL

@@ -1,52 +1,76 @@
+-- `put_expression` meets its contract: the count, the rows and the contents, one behind the other.
+-- Assumes nothing.
+use native.Mathlib.Omega.{arith}
+use Rattle.wire.specs.Le.{Bytes}
+use Rattle.expression.specs.Laws.{some-node}
+use Rattle.writing.proofs.Known.{known}
+use Rattle.writing.proofs.Whole.{image, count-room, rows-room, root-writable, result-room, wrote-whole}
 use borrow.Author.Needs.{needs}
 use Rattle.writing.proofs.put_expression.Statement.{statement}
 use Rattle.writing.proofs.put_expression.Tie as tie
-use Rattle.writing.proofs.put_expression.Reads as reads
-use Rattle.writing.proofs.put_expression.Lts as lts
-use Rattle.bound.proofs.fields.put_count.Reads as put-count-reads
-use Rattle.expression.proofs.nodes.Reads as nodes-reads
-use Rattle.writing.proofs.counts.bound_nodes.Reads as bound-nodes-reads
-use Rattle.writing.proofs.write.Reads as write-reads
 
--- src/lib.rt:176:9
 bound-nodes-requires : tie.Need-bound-nodes-requires
-bound-nodes-requires c κs = ?
+bound-nodes-requires c κs = image (c .before .before .before .pre)
 
--- src/lib.rt:177:9
 put-count-requires : tie.Need-put-count-requires
-put-count-requires c κs = ?
+put-count-requires c κs =
+    let s = c .before .before .before .before .before in
+    let w = s .pre in
+    let y : Bytes (s .args .e .now) = known (c .before .before .shared-slice-known2 .given) in
+    let n = c .before .bound-nodes .ensures in
+    count-room w y (n .0) (n .1)
 
--- src/lib.rt:178:26
 mul-content : tie.Need-mul-content
-mul-content c = ?
+mul-content c =
+    let s = c .before .before .before .before .before .before .before .before in
+    let w = s .pre in
+    let y : Bytes (s .args .e .now) = known (c .before .before .before .before .before .shared-slice-known2 .given) in
+    let n = c .before .before .before .before .bound-nodes .ensures in
+    omega (arith, rows-room w y (n .0) (n .1) (c .before .before .put-count .ensures))
 
--- src/lib.rt:178:19
 add-content : tie.Need-add-content
-add-content c = ?
+add-content c =
+    let s = c .before .before .before .before .before .before .before .before in
+    let w = s .pre in
+    let y : Bytes (s .args .e .now) = known (c .before .before .before .before .before .shared-slice-known2 .given) in
+    let n = c .before .before .before .before .bound-nodes .ensures in
+    omega (arith, rows-room w y (n .0) (n .1) (c .before .before .put-count .ensures))
 
--- src/lib.rt:179:16
 nodes-requires : tie.Need-nodes-requires
-nodes-requires c κs = ?
+nodes-requires c κs = image (c .before .before .before .before .before .before .before .before .pre)
 
--- src/lib.rt:179:16
 sub-last : tie.Need-sub-last
-sub-last c = ?
+sub-last c =
+    let s = c .before .before .before .before .before .before .before .before .before in
+    let y : Bytes (s .args .e .now) = known (c .before .before .before .before .before .before .shared-slice-known2 .given) in
+    omega (arith, c .nodes .ensures, some-node y (image (s .pre)))
 
--- src/lib.rt:180:9
 write-requires : tie.Need-write-requires
-write-requires c κs = ?
+write-requires c κs =
+    let s = c .before .before .before .before .before .before .before .before .before .before in
+    let w = s .pre in
+    let y : Bytes (s .args .e .now) = known (c .before .before .before .before .before .before .before .shared-slice-known2 .given) in
+    let n = c .before .before .before .before .before .before .bound-nodes .ensures in
+    root-writable w y (n .0) (n .1) (c .before .before .before .before .put-count .ensures) (c .before .nodes .ensures)
 
--- src/lib.rt:181:5
 add-result : tie.Need-add-result
-add-result c = ?
+add-result c =
+    let s = c .before .before .before .before .before .before .before .before .before .before .before .before .before .before in
+    let w = s .pre in
+    let y : Bytes (s .args .e .now) = known (c .before .before .before .before .before .before .before .before .before .before .before .shared-slice-known2 .given) in
+    let n = c .before .before .before .before .before .before .before .before .before .before .bound-nodes .ensures in
+    omega (arith, result-room w y (n .0) (n .1) (c .before .before .before .before .before .before .before .before .put-count .ensures) (c .before .before .before .before .before .nodes .ensures) (c .before .before .before .write .ensures))
 
--- src/lib.rt:171:1
 same-length : tie.Need-same-length
 same-length c = search needs
 
--- src/lib.rt:171:1
 returns : tie.Need-returns
-returns c = ?
+returns c v x b h g z =
+    let s = c .before .before .before .before .before .before .before .before .before .before .before .before .before .before in
+    let w = s .pre in
+    let y : Bytes (s .args .e .now) = known (c .before .before .before .before .before .before .before .before .before .before .before .shared-slice-known2 .given) in
+    let n = c .before .before .before .before .before .before .before .before .before .before .bound-nodes .ensures in
+    wrote-whole w y (n .0) (n .1) (c .before .before .before .before .before .before .before .before .put-count .ensures) (c .before .before .before .before .before .nodes .ensures) (c .before .before .before .write .ensures) b (record { schema = v; holds = h; tree = x; reads = g; bound = z })
 
 pub put-expression-spec : {M : Type 1} → statement M
 put-expression-spec =

@@ -8,10 +8,6 @@ use Rattle.writing.specs.Counts.{weight-few, Counting, counting, countin
 use Rattle.writing.proofs.Known.{known}
 use Rattle.writing.proofs.counts.bound_nodes.Statement.{statement}
 use Rattle.writing.proofs.counts.bound_nodes.Tie as tie
-use Rattle.writing.proofs.counts.bound_nodes.Reads as reads
-use Rattle.writing.proofs.counts.bound_nodes.Lts as lts
-use Rattle.expression.proofs.nodes.Reads as nodes-reads
-use Rattle.writing.proofs.counts.own_nodes.Reads as own-nodes-reads
 
 abbrev Inv-loop : tie.InvT-loop
 Inv-loop e n sum₀ i₀ sum i = Counting e n sum i
@@ -19,38 +15,30 @@ Inv-loop e n sum₀ i₀ sum i = Counting e n sum i
 abbrev μ-loop : tie.MeasureT-loop
 μ-loop e n sum₀ i₀ sum i = n - i
 
--- src/counts.rt:37:9
 nodes-requires : tie.Need-nodes-requires Inv-loop μ-loop
 nodes-requires c κs = search needs
 
--- src/counts.rt:40:5
 loop-holds : tie.Need-loop-holds Inv-loop μ-loop
 loop-holds c = counting (c .before .before .pre) (c .nodes .ensures)
 
--- src/counts.rt:41:16
 own-nodes-requires : tie.Need-own-nodes-requires Inv-loop μ-loop
 own-nodes-requires c κs = counting-node (c .before .loop .inv) (c .loop-test .taken)
 
--- src/counts.rt:41:9
 add-sum : tie.Need-add-sum Inv-loop μ-loop
 add-sum c =
     let l = c .before .before .loop in
     let e = c .before .before .before .before .before .args .e .now in
     omega (arith, counting-few (l .inv), c .own-nodes .ensures, weight-few (nodeAt e) (l .i))
 
--- src/counts.rt:42:9
 add-i : tie.Need-add-i Inv-loop μ-loop
 add-i c = search needs
 
--- src/counts.rt:40:5
 loop-less : tie.Need-loop-less Inv-loop μ-loop
 loop-less c = search needs
 
--- src/counts.rt:40:5
 loop-again : tie.Need-loop-again Inv-loop μ-loop
 loop-again c = counting-on (c .before .before .loop .inv) (c .before .loop-test .taken) (c .own-nodes .ensures)
 
--- src/counts.rt:32:1
 returns : tie.Need-returns Inv-loop μ-loop
 returns c =
     let k = c .before .loop .inv in

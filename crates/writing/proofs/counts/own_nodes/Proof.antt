@@ -9,44 +9,33 @@ use Rattle.writing.proofs.Known.{known}
 use borrow.Author.Needs.{needs}
 use Rattle.writing.proofs.counts.own_nodes.Statement.{statement}
 use Rattle.writing.proofs.counts.own_nodes.Tie as tie
-use Rattle.writing.proofs.counts.own_nodes.Reads as reads
-use Rattle.writing.proofs.counts.own_nodes.Lts as lts
-use Rattle.expression.proofs.kind.Reads as kind-reads
-use Rattle.writing.proofs.nodes.signs_number.Reads as signs-number-reads
 
--- src/counts.rt:19:9
 kind-requires : tie.Need-kind-requires
 kind-requires c κs = search needs
 
--- src/counts.rt:21:9
 returns : tie.Need-returns
 returns c =
     let s = c .before .before .before in
     sym (parens-weight (nodeAt (s .args .e .now)) (s .args .i) _ (c .before .kind .ensures) (c .if1 .taken))
 
--- src/counts.rt:24:9
 returns-2 : tie.Need-returns-2
 returns-2 c =
     let s = c .before .before .before .before in
     sym (small-weight (nodeAt (s .args .e .now)) (s .args .i) _ (c .before .before .kind .ensures) (c .before .if1 .left) (c .if2 .taken))
 
--- src/counts.rt:26:24
 sub-signs-number : tie.Need-sub-signs-number
 sub-signs-number c =
     let s = c .before .before .before .before in
     last-operand (known (c .before .before .before .shared-slice-known .given)) (s .pre) _ (c .before .before .kind .ensures) (omega arith) .0
 
--- src/counts.rt:26:8
 signs-number-requires : tie.Need-signs-number-requires
 signs-number-requires c κs = search needs
 
--- src/counts.rt:27:9
 returns-3 : tie.Need-returns-3
 returns-3 c =
     let s = c .before .before .before .before .before .before in
     sym (signed-weight (nodeAt (s .args .e .now)) (s .args .i) _ (c .before .before .before .before .kind .ensures) (c .before .before .if2 .left) (sym (c .before .signs-number .ensures) ∙ c .if3 .taken))
 
--- src/counts.rt:15:1
 returns-4 : tie.Need-returns-4
 returns-4 c =
     let s = c .before .before .before .before .before .before in

@@ -24,179 +24,139 @@ use Rattle.writing.proofs.Contents.{
 use borrow.Author.Needs.{needs}
 use Rattle.writing.proofs.leaves.put_content.Statement.{statement}
 use Rattle.writing.proofs.leaves.put_content.Tie as tie
-use Rattle.writing.proofs.leaves.put_content.Reads as reads
-use Rattle.writing.proofs.leaves.put_content.Lts as lts
-use Rattle.bound.proofs.values.put_bool.Reads as put-bool-reads
-use Rattle.bound.proofs.values.put_null.Reads as put-null-reads
-use Rattle.bound.proofs.values.put_text.Reads as put-text-reads
-use Rattle.expression.proofs.text.Reads as text-reads
-use Rattle.writing.proofs.leaves.literal.Reads as literal-reads
-use Rattle.writing.proofs.leaves.put_column.Reads as put-column-reads
-use Rattle.writing.proofs.leaves.put_number.Reads as put-number-reads
 
--- src/leaves.rt:83:35
 text-requires : tie.Need-text-requires
 text-requires c κs = search needs
 
--- src/leaves.rt:83:14
 put-column-requires : tie.Need-put-column-requires
 unfolding leafOf
 put-column-requires c κs =
     let s = c .before .before .before .before .before .before in
     (rw (c .before .text .ensures) (s .pre .0 .0 .short (s .args .i) (s .pre .0 .1 .within) (omega (arith, s .pre .1 .0 .0, c .before .before .match .keys1))), room-by (name-rule (s .args .t .now) false _ (rw (c .before .before .match .keys1, c .before .text .ensures))) (s .pre .1 .1))
 
--- src/leaves.rt:84:34
 text-requires-2 : tie.Need-text-requires-2
 text-requires-2 c κs = search needs
 
--- src/leaves.rt:84:14
 put-column-requires-2 : tie.Need-put-column-requires-2
 unfolding leafOf
 put-column-requires-2 c κs =
     let s = c .before .before .before .before .before .before in
     (rw (c .before .text2 .ensures) (s .pre .0 .0 .short (s .args .i) (s .pre .0 .1 .within) (omega (arith, s .pre .1 .0 .0, c .before .before .match .keys2))), room-by (name-rule (s .args .t .now) true _ (rw (c .before .before .match .keys2, c .before .text2 .ensures))) (s .pre .1 .1))
 
--- src/leaves.rt:85:25
 text-requires-3 : tie.Need-text-requires-3
 text-requires-3 c κs = search needs
 
--- src/leaves.rt:85:14
 put-number-requires : tie.Need-put-number-requires
 unfolding leafOf
 put-number-requires c κs =
     let s = c .before .before .before .before .before .before in
     room-by (number-rule (s .args .t .now) _ (rw (c .before .before .match .keys3, c .before .text3 .ensures))) (s .pre .1 .1)
 
--- src/leaves.rt:86:69
 text-requires-4 : tie.Need-text-requires-4
 text-requires-4 c κs = search needs
 
--- src/leaves.rt:86:51
 put-text-requires : tie.Need-put-text-requires
 unfolding leafOf
 put-text-requires c κs =
     let s = c .before .before .before .before .before .before in
     rw (text-length (c .text4 .result .now)) at (literal-room (Ruled (s .args .t .now) (leafOf (s .args .k) ((nodeAt (s .args .e .now) (s .args .i)) .text))) (text (c .text4 .result .now)) type.Text false (string-rule (s .args .t .now) (c .text4 .result .now) (rw (c .before .before .match .keys4, c .text4 .ensures))) (s .pre .1 .1))
 
--- src/leaves.rt:86:14
 literal-requires : tie.Need-literal-requires
 literal-requires c κs = search needs
 
--- src/leaves.rt:87:51
 put-bool-requires : tie.Need-put-bool-requires
 unfolding leafOf
 put-bool-requires c κs =
     let s = c .before .before .before .before .before in
     rw (bool-length true) at (literal-room (Ruled (s .args .t .now) (leafOf (s .args .k) ((nodeAt (s .args .e .now) (s .args .i)) .text))) (bool true) type.Bool false (truth-rule (s .args .t .now) true (rw (c .before .match .keys5))) (s .pre .1 .1))
 
--- src/leaves.rt:87:14
 literal-requires-2 : tie.Need-literal-requires-2
 literal-requires-2 c κs = search needs
 
--- src/leaves.rt:88:51
 put-bool-requires-2 : tie.Need-put-bool-requires-2
 unfolding leafOf
 put-bool-requires-2 c κs =
     let s = c .before .before .before .before .before in
     rw (bool-length false) at (literal-room (Ruled (s .args .t .now) (leafOf (s .args .k) ((nodeAt (s .args .e .now) (s .args .i)) .text))) (bool false) type.Bool false (truth-rule (s .args .t .now) false (rw (c .before .match .keys6))) (s .pre .1 .1))
 
--- src/leaves.rt:88:14
 literal-requires-3 : tie.Need-literal-requires-3
 literal-requires-3 c κs = search needs
 
--- src/leaves.rt:89:50
 put-null-requires : tie.Need-put-null-requires
 unfolding leafOf
 put-null-requires c κs =
     let s = c .before .before .before .before .before in
     rw null-length at (literal-room (Ruled (s .args .t .now) (leafOf (s .args .k) ((nodeAt (s .args .e .now) (s .args .i)) .text))) null type.Null true (null-rule (s .args .t .now) (rw (c .before .match .keys7))) (s .pre .1 .1))
 
--- src/leaves.rt:89:14
 literal-requires-4 : tie.Need-literal-requires-4
 literal-requires-4 c κs = search needs
 
--- src/leaves.rt:90:14
 literal-requires-5 : tie.Need-literal-requires-5
 literal-requires-5 c κs = search needs
 
--- src/leaves.rt:76:1
 same-length : tie.Need-same-length
 same-length c = search needs
 
--- src/leaves.rt:76:1
 returns : tie.Need-returns
 unfolding leafOf
 returns c =
     let s = c .before .before .before .before .before .before .before .before .before in
     puts-by (name-rule (s .args .t .now) false _ (rw (c .before .before .before .before .before .match .keys1, c .before .before .before .before .text .ensures))) (c .before .before .put-column .ensures)
 
--- src/leaves.rt:76:1
 same-length-2 : tie.Need-same-length-2
 same-length-2 c = search needs
 
--- src/leaves.rt:76:1
 returns-2 : tie.Need-returns-2
 unfolding leafOf
 returns-2 c =
     let s = c .before .before .before .before .before .before .before .before .before in
     puts-by (name-rule (s .args .t .now) true _ (rw (c .before .before .before .before .before .match .keys2, c .before .before .before .before .text2 .ensures))) (c .before .before .put-column2 .ensures)
 
--- src/leaves.rt:76:1
 same-length-3 : tie.Need-same-length-3
 same-length-3 c = search needs
 
--- src/leaves.rt:76:1
 returns-3 : tie.Need-returns-3
 unfolding leafOf
 returns-3 c =
     let s = c .before .before .before .before .before .before .before .before .before in
     puts-by (number-rule (s .args .t .now) _ (rw (c .before .before .before .before .before .match .keys3, c .before .before .before .before .text3 .ensures))) (c .before .before .put-number .ensures)
 
--- src/leaves.rt:76:1
 same-length-4 : tie.Need-same-length-4
 same-length-4 c = search needs
 
--- src/leaves.rt:76:1
 returns-4 : tie.Need-returns-4
 unfolding leafOf
 returns-4 c =
     let s = c .before .before .before .before .before .before .before .before .before .before in
     literal-puts (Ruled (s .args .t .now) (leafOf (s .args .k) ((nodeAt (s .args .e .now) (s .args .i)) .text))) (text _) type.Text false (string-rule (s .args .t .now) _ (rw (c .before .before .before .before .before .before .match .keys4, c .before .before .before .before .text4 .ensures))) (c .literal .ensures) (c .before .before .before .put-text .ensures)
 
--- src/leaves.rt:76:1
 same-length-5 : tie.Need-same-length-5
 same-length-5 c = search needs
 
--- src/leaves.rt:76:1
 returns-5 : tie.Need-returns-5
 unfolding leafOf
 returns-5 c =
     let s = c .before .before .before .before .before .before .before .before .before in
     literal-puts (Ruled (s .args .t .now) (leafOf (s .args .k) ((nodeAt (s .args .e .now) (s .args .i)) .text))) (bool true) type.Bool false (truth-rule (s .args .t .now) true (rw (c .before .before .before .before .before .match .keys5))) (c .literal2 .ensures) (c .before .before .before .put-bool .ensures)
 
--- src/leaves.rt:76:1
 same-length-6 : tie.Need-same-length-6
 same-length-6 c = search needs
 
--- src/leaves.rt:76:1
 returns-6 : tie.Need-returns-6
 unfolding leafOf
 returns-6 c =
     let s = c .before .before .before .before .before .before .before .before .before in
     literal-puts (Ruled (s .args .t .now) (leafOf (s .args .k) ((nodeAt (s .args .e .now) (s .args .i)) .text))) (bool false) type.Bool false (truth-rule (s .args .t .now) false (rw (c .before .before .before .before .before .match .keys6))) (c .literal3 .ensures) (c .before .before .before .put-bool2 .ensures)
 
--- src/leaves.rt:76:1
 same-length-7 : tie.Need-same-length-7
 same-length-7 c = search needs
 
--- src/leaves.rt:76:1
 returns-7 : tie.Need-returns-7
 unfolding leafOf
 returns-7 c =
     let s = c .before .before .before .before .before .before .before .before .before in
     literal-puts (Ruled (s .args .t .now) (leafOf (s .args .k) ((nodeAt (s .args .e .now) (s .args .i)) .text))) null type.Null true (null-rule (s .args .t .now) (rw (c .before .before .before .before .before .match .keys7))) (c .literal4 .ensures) (c .before .before .before .put-null .ensures)
 
--- src/leaves.rt:76:1
 returns-8 : tie.Need-returns-8
 unfolding leafOf
 returns-8 c =

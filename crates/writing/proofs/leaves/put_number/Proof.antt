@@ -8,43 +8,30 @@ use Rattle.writing.proofs.Contents.{number-room, number-puts, number-ne
 use borrow.Author.Needs.{needs}
 use Rattle.writing.proofs.leaves.put_number.Statement.{statement}
 use Rattle.writing.proofs.leaves.put_number.Tie as tie
-use Rattle.writing.proofs.leaves.put_number.Reads as reads
-use Rattle.writing.proofs.leaves.put_number.Lts as lts
-use Rattle.bound.proofs.values.put_int.Reads as put-int-reads
-use Rattle.numbers.proofs.integer_literal.Reads as integer-literal-reads
-use Rattle.writing.proofs.leaves.literal.Reads as literal-reads
 
--- src/leaves.rt:42:11
 integer-literal-requires : tie.Need-integer-literal-requires
 integer-literal-requires c κs = search needs
 
--- src/leaves.rt:43:24
 enum-known-z : tie.Need-enum-known-z
 enum-known-z c = search needs
 
--- src/leaves.rt:43:66
 put-int-requires : tie.Need-put-int-requires
 put-int-requires c κs =
     let s = c .before .before .before .before .before .before .before in
     number-room (s .args .negative) (s .args .s .now) _ (sym (c .before .before .before .before .integer-literal .ensures) ∙ c .before .before .z .given .1) (s .pre)
 
--- src/leaves.rt:43:30
 literal-requires : tie.Need-literal-requires
 literal-requires c κs = search needs
 
--- src/leaves.rt:45:33
 enum-told : tie.Need-enum-told
 enum-told c = search needs
 
--- src/leaves.rt:45:25
 literal-requires-2 : tie.Need-literal-requires-2
 literal-requires-2 c κs = search needs
 
--- src/leaves.rt:38:1
 same-length : tie.Need-same-length
 same-length c = search needs
 
--- src/leaves.rt:38:1
 returns : tie.Need-returns
 returns c =
     let s = c .before .before .before .before .before .before .before .before .before .before .before in
@@ -52,7 +39,6 @@ returns c =
     let fits : SFits w64 (z .0 .0) = record { sfits = c .before .before .before .before .before .known-told .given .0 .1 } in
     number-puts (s .args .negative) (s .args .s .now) (z .0 .0) (sym (c .before .before .before .before .before .before .before .before .integer-literal .ensures) ∙ z .1) (c .literal .ensures) (rw (toZ-ofZ fits) at (c .before .before .before .put-int .ensures))
 
--- src/leaves.rt:38:1
 returns-2 : tie.Need-returns-2
 returns-2 c =
     let s = c .before .before .before .before .before .before in

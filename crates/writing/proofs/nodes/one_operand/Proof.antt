@@ -9,38 +9,28 @@ use Rattle.writing.proofs.Arms.{past}
 use borrow.Author.Needs.{needs}
 use Rattle.writing.proofs.nodes.one_operand.Statement.{statement}
 use Rattle.writing.proofs.nodes.one_operand.Tie as tie
-use Rattle.writing.proofs.nodes.one_operand.Reads as reads
-use Rattle.writing.proofs.nodes.one_operand.Lts as lts
-use Rattle.operators.proofs.unary.Reads as unary-reads
-use Rattle.writing.proofs.nodes.granted.Reads as granted-reads
 
--- src/nodes.rt:52:23
 unary-requires : tie.Need-unary-requires
 unary-requires c κs = search needs
 
--- src/nodes.rt:52:15
 granted-requires : tie.Need-granted-requires
 unfolding unOf
 granted-requires c κs =
     let s = c .before .before in
     fine-granted {u = unaryRule (unary Positive) (s .args .m)} (c .unary .ensures) (rw (c .before .match .keys1) at (s .pre .1))
 
--- src/nodes.rt:53:23
 unary-requires-2 : tie.Need-unary-requires-2
 unary-requires-2 c κs = search needs
 
--- src/nodes.rt:53:15
 granted-requires-2 : tie.Need-granted-requires-2
 unfolding unOf
 granted-requires-2 c κs =
     let s = c .before .before in
     fine-granted {u = unaryRule (unary Negative) (s .args .m)} (c .unary2 .ensures) (rw (c .before .match .keys2) at (s .pre .1))
 
--- src/nodes.rt:54:22
 unary-requires-3 : tie.Need-unary-requires-3
 unary-requires-3 c κs = search needs
 
--- src/nodes.rt:54:14
 granted-requires-3 : tie.Need-granted-requires-3
 unfolding unOf
 granted-requires-3 c κs =
@@ -48,21 +38,18 @@ granted-requires-3 c κs =
     let e = ruled-not (s .args .k) (s .args .m) (past (past (s .pre .0 .0) (c .before .match .rest .0 .1)) (c .before .match .rest .1)) (s .pre .0 .1) (s .pre .1) in
     fine-granted {u = unaryRule (unary Not) (s .args .m)} (c .unary3 .ensures) (rw e at (s .pre .1))
 
--- src/nodes.rt:47:1
 returns : tie.Need-returns
 unfolding unOf
 returns c =
     let s = c .before .before .before in
     rw (c .before .before .match .keys1) (granted-fine (unaryRule (unary Positive) (s .args .m)) (c .before .unary .ensures) (c .granted .ensures))
 
--- src/nodes.rt:47:1
 returns-2 : tie.Need-returns-2
 unfolding unOf
 returns-2 c =
     let s = c .before .before .before in
     rw (c .before .before .match .keys2) (granted-fine (unaryRule (unary Negative) (s .args .m)) (c .before .unary2 .ensures) (c .granted2 .ensures))
 
--- src/nodes.rt:47:1
 returns-3 : tie.Need-returns-3
 unfolding unOf
 returns-3 c =

@@ -9,27 +9,18 @@ use Rattle.writing.specs.Fine.{fine-granted, granted-fine, ruled-below}
 use borrow.Author.Needs.{needs}
 use Rattle.writing.proofs.nodes.two_operands.Statement.{statement}
 use Rattle.writing.proofs.nodes.two_operands.Tie as tie
-use Rattle.writing.proofs.nodes.two_operands.Reads as reads
-use Rattle.writing.proofs.nodes.two_operands.Lts as lts
-use Rattle.operators.proofs.binary.Reads as binary-reads
-use Rattle.writing.proofs.nodes.granted.Reads as granted-reads
-use Rattle.writing.proofs.nodes.operator.Reads as operator-reads
 
--- src/nodes.rt:83:20
 operator-requires : tie.Need-operator-requires
 operator-requires c κs = (c .pre .0 .0, ruled-below (c .args .k) (c .args .a) (c .args .b) (c .pre .0 .1) (c .pre .1))
 
--- src/nodes.rt:83:13
 binary-requires : tie.Need-binary-requires
 binary-requires c κs = search needs
 
--- src/nodes.rt:83:5
 granted-requires : tie.Need-granted-requires
 granted-requires c κs =
     let a = c .before .before .args in
     fine-granted (c .binary .ensures ∙ ap (λ (o : Binary). toldMark (binaryRule o (a .a) (a .b))) (c .before .operator .ensures)) (c .before .before .pre .1)
 
--- src/nodes.rt:79:1
 returns : tie.Need-returns
 returns c =
     let a = c .before .before .before .args in
