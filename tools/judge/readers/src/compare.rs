@@ -75,7 +75,7 @@ impl Comparison {
         let mut index = 0;
         while self.left > 0 {
             let mut rng = Rng::of_case(seed, index);
-            let kind = Kind::ALL[index as usize % Kind::ALL.len()];
+            let kind = kind_of(index);
             let image = image(&mut rng, kind, SMALL);
             self.tally.whole += 1;
             self.tally.whole_bytes += image.len() as u64;
@@ -90,7 +90,7 @@ impl Comparison {
         while self.left > 0 {
             // not the images that every_copy took
             let mut rng = Rng::of_case(!seed, index);
-            let kind = Kind::ALL[index as usize % Kind::ALL.len()];
+            let kind = kind_of(index);
             let (image, other) = (image(&mut rng, kind, usize::MAX), image(&mut rng, kind, SMALL));
             for _ in 0..50 {
                 self.see(kind, Way::Spliced, &spliced(&mut rng, &image, &other));
@@ -98,6 +98,16 @@ impl Comparison {
             index += 1;
         }
     }
+}
+
+fn kind_of(index: u64) -> Kind {
+    Kind::ALL[index as usize % Kind::ALL.len()]
+}
+
+/// A small image of a seed, by its number.
+pub fn small_image(seed: u64, index: u64) -> (Kind, Vec<u8>) {
+    let kind = kind_of(index);
+    (kind, image(&mut Rng::of_case(seed, index), kind, SMALL))
 }
 
 /// An image of at most so many bytes: one that makes sense, or one of any shape.
