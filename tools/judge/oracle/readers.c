@@ -10,6 +10,8 @@
 /* tools/judge/oracle/src/lib.rs */
 uint8_t oracle_read_statement(const uint8_t *bytes, size_t length);
 uint8_t oracle_read_catalogue(const uint8_t *bytes, size_t length);
+bool oracle_is_row(const uint8_t *bytes, size_t length);
+bool oracle_obeys(const uint8_t *bytes, size_t length, const uint8_t *tables, size_t tables_length, size_t number);
 
 enum { MOST = 1 << 20 };
 
@@ -38,6 +40,23 @@ static void hold(const char *what, unsigned rust, unsigned proved)
     }
 }
 
+/* The catalogue whose first table is held against each input that may be a row: the file runs.image. */
+static uint8_t runs[4096];
+static size_t runs_length;
+
+int LLVMFuzzerInitialize(int *count, char ***words)
+{
+    (void)count, (void)words;
+    FILE *file = fopen("runs.image", "rb");
+    if (file == NULL) {
+        perror("runs.image");
+        exit(2);
+    }
+    runs_length = fread(runs, 1, sizeof runs, file);
+    fclose(file);
+    return 0;
+}
+
 int LLVMFuzzerTestOneInput(const uint8_t *data, size_t length)
 {
     if (length > MOST)
@@ -47,5 +66,8 @@ int LLVMFuzzerTestOneInput(const uint8_t *data, size_t length)
     unsigned catalogue = oracle_read_catalogue(bytes, length);
     hold("catalogue", catalogue, sirklemet_read_catalogue(bytes, length));
     hold("is a catalogue", catalogue != 6, sirklemet_is_catalogue(bytes, length));
+    hold("is a row", oracle_is_row(bytes, length), sirklemet_is_row(bytes, length));
+    bool obeys = oracle_obeys(bytes, length, runs, runs_length, 0);
+    hold("row of the table", obeys, sirklemet_obeys(bytes, length, runs, runs_length, 0));
     return 0;
 }

@@ -5,6 +5,7 @@ use std::process::ExitCode;
 use images::show::hex;
 use readers::compare::{Difference, compare, small_image};
 use readers::mistakes::{MISTAKES, Mistake, named};
+use readers::sides::Asked;
 
 const HELP: &str = "\
 damage --seed S --count N    N images of seed S, judged by the Rust decoder and by the proved readers: what the generator
@@ -76,7 +77,7 @@ fn run(command: &Command) -> Result<bool, String> {
 fn write_seeds(command: &Command, folder: &str) -> Result<(), String> {
     for index in 0..command.count {
         let (kind, image) = small_image(command.seed, index);
-        let file = format!("{folder}/{}-{index}", kind.name());
+        let file = format!("{folder}/{}-{index}", kind.name().replace(' ', "-"));
         std::fs::write(&file, image).map_err(|error| format!("{file}: {error}"))?;
     }
     Ok(())
@@ -95,11 +96,15 @@ fn compared(command: &Command, mistake: Option<&'static Mistake>) -> bool {
 }
 
 fn in_words(difference: &Difference) -> String {
-    let Difference { kind, way, bytes, rust, proved } = difference;
+    let Difference { asked, way, bytes, rust, proved } = difference;
     let name = |number: u8| if number == 0 { "taken".to_string() } else { format!("refused {number}") };
+    let table = match asked {
+        Asked::RowOf(table) => format!("table {} of the catalogue {}\n", table.number, hex(&table.tables)),
+        _ => String::new(),
+    };
     format!(
-        "\nthe first difference: a {}, {}, of {} bytes\nthe Rust: {} ({})\nthe proved reader: {}\nin hex: {}\n",
-        kind.name(),
+        "\nthe first difference: a {}, {}, of {} bytes\nthe Rust: {} ({})\nthe proved reader: {}\nin hex: {}\n{table}",
+        asked.kind().name(),
         way.name(),
         bytes.len(),
         name(rust.number),
