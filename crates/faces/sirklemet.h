@@ -13,12 +13,17 @@
 extern "C" {
 #endif
 
-/* Whether bytes are the image of a statement, of a catalogue (docs/IMAGES.md), whatever its size. */
+/* Whether bytes are the image of a statement, of a catalogue, of a row of whatever table (docs/IMAGES.md), whatever its
+ * size. */
 bool sirklemet_is_statement(const uint8_t *bytes, size_t length);
 bool sirklemet_is_catalogue(const uint8_t *bytes, size_t length);
+bool sirklemet_is_row(const uint8_t *bytes, size_t length);
 
 /* 0: a catalogue within the limits. 6: no catalogue. 7: one past a limit. */
 uint8_t sirklemet_read_catalogue(const uint8_t *bytes, size_t length);
+
+/* Whether the second bytes are a catalogue that has a table of this number, from 0, and the first a row that obeys it. */
+bool sirklemet_obeys(const uint8_t *bytes, size_t length, const uint8_t *tables, size_t tables_length, size_t number);
 
 #ifdef __cplusplus
 }

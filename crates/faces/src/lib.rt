@@ -3,7 +3,8 @@ ghost use mathlib.Core.Path.{_≡_};
 ghost use Rattle.bundle.specs.Bundle.{isThere};
 ghost use Rattle.statement.specs.Layout.{statement};
 ghost use Rattle.catalogue.specs.Layout.{catalogue};
-ghost use Rattle.faces.specs.Told.{toldOfCatalogue};
+ghost use Rattle.row.specs.Layout.{row};
+ghost use Rattle.faces.specs.Told.{toldOfCatalogue, toldObeys};
 
 #[no_mangle]
 pub extern "C" fn sirklemet_is_statement(bytes: &[u8]) -> bool
@@ -31,4 +32,26 @@ pub extern "C" fn sirklemet_read_catalogue(bytes: &[u8]) -> u8
         return 7;
     }
     0
+}
+
+// Of whatever table.
+#[no_mangle]
+pub extern "C" fn sirklemet_is_row(bytes: &[u8]) -> bool
+    ensures { λ r. ⌜ r ≡ isThere (row .read (now (bytes .entry))) ⌝ }
+{
+    row::is_row(bytes)
+}
+
+// Whether a row obeys the table of this number, from 0. No row obeys a table that is not there.
+#[no_mangle]
+pub extern "C" fn sirklemet_obeys(bytes: &[u8], tables: &[u8], number: usize) -> bool
+    ensures { λ r. ⌜ r ≡ toldObeys (now (bytes .entry)) (now (tables .entry)) number ⌝ }
+{
+    if !catalogue::is_catalogue(tables) {
+        return false;
+    }
+    if bundle::parts(tables, 2) <= number {
+        return false;
+    }
+    row::obeys(bytes, bundle::part(tables, 2, number))
 }

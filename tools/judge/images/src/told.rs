@@ -1,7 +1,7 @@
 //! What is told of bytes: the number of a refusal of paper 01 that they alone decide, or 0.
 
 use crate::bytes::Written;
-use crate::{catalogue, limits, statement};
+use crate::{catalogue, limits, row, statement};
 
 #[derive(Debug, Clone, PartialEq, Eq)]
 pub struct Told {
@@ -47,6 +47,31 @@ pub fn of_catalogue(bytes: &[u8]) -> Told {
     match limits::catalogue_passes(&value, bytes.len()) {
         Some(limit) => Told::refused(7, limit),
         None => Told::taken(),
+    }
+}
+
+/// 10: no row, of whatever table.
+pub fn of_any_row(bytes: &[u8]) -> Told {
+    let value = match row::decode(bytes) {
+        Ok(value) => value,
+        Err(damage) => return Told::refused(10, damage.to_string()),
+    };
+    hold_to_bytes(value.encode(), bytes);
+    Told::taken()
+}
+
+/// 10: no row that obeys the table of this number, from 0, or there is no such table.
+pub fn of_row(bytes: &[u8], tables: &[u8], number: usize) -> Told {
+    let catalogue = match catalogue::decode(tables) {
+        Ok(catalogue) => catalogue,
+        Err(damage) => return Told::refused(10, format!("no catalogue: {damage}")),
+    };
+    let Some(table) = catalogue.tables.get(number) else {
+        return Told::refused(10, format!("there are only {} tables", catalogue.tables.len()));
+    };
+    match row::decode_of(bytes, table) {
+        Ok(_) => Told::taken(),
+        Err(damage) => Told::refused(10, damage.to_string()),
     }
 }
 

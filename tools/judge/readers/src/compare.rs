@@ -1,17 +1,18 @@
 //! The comparison: generated images and damaged copies of them, judged by both sides.
 
-use images::random::{Rng, any_catalogue, any_statement};
+use images::random::Rng;
 use images::told::Told;
 use judge::generate::planted;
 
 use crate::copies::{Way, every_copy, spliced};
+use crate::made::{image, made};
 use crate::mistakes::Mistake;
-use crate::sides::{Kind, proved, rust};
+use crate::sides::{Asked, Kind, proved, rust};
 use crate::tally::Tally;
 
 /// Bytes that are judged differently.
 pub struct Difference {
-    pub kind: Kind,
+    pub asked: Asked,
     pub way: Way,
     pub bytes: Vec<u8>,
     pub rust: Told,
@@ -42,20 +43,21 @@ pub fn compare(mistake: Option<&'static Mistake>, seed: u64, count: u64) -> Comp
 const SMALL: usize = 500;
 
 impl Comparison {
-    fn see(&mut self, kind: Kind, way: Way, bytes: &[u8]) {
+    fn see(&mut self, asked: &Asked, way: Way, bytes: &[u8]) {
         if self.left == 0 {
             return;
         }
         self.left -= 1;
         let rust = match self.mistake {
-            Some(mistake) => mistake.told(kind, bytes),
-            None => rust(kind, bytes),
+            Some(mistake) => mistake.told(asked, bytes),
+            None => rust(asked, bytes),
         };
-        let proved = proved(kind, bytes);
-        self.tally.add(kind, rust.number, way);
+        let proved = proved(asked, bytes);
+        self.tally.add(asked.kind(), rust.number, way);
         if rust.number != proved {
             self.differences += 1;
-            self.first.get_or_insert_with(|| Difference { kind, way, bytes: bytes.to_vec(), rust, proved });
+            let difference = || Difference { asked: asked.clone(), way, bytes: bytes.to_vec(), rust, proved };
+            self.first.get_or_insert_with(difference);
         }
     }
 
@@ -64,8 +66,13 @@ impl Comparison {
         let mut index = 0;
         while self.left > 0 {
             let case = planted(seed, index).case;
-            self.see(Kind::Statement, Way::Made, &case.statement);
-            self.see(Kind::Catalogue, Way::Made, &case.catalogue);
+            self.see(&Asked::Statement, Way::Made, &case.statement);
+            self.see(&Asked::Catalogue, Way::Made, &case.catalogue);
+            let mut rng = Rng::of_case(seed, index);
+            for kind in [Kind::Row, Kind::RowOf] {
+                let (asked, image) = made(&mut rng, kind);
+                self.see(&asked, Way::Made, &image);
+            }
             index += 1;
         }
     }
@@ -75,11 +82,10 @@ impl Comparison {
         let mut index = 0;
         while self.left > 0 {
             let mut rng = Rng::of_case(seed, index);
-            let kind = Kind::ALL[index as usize % Kind::ALL.len()];
-            let image = image(&mut rng, kind, SMALL);
+            let (asked, image) = image(&mut rng, kind_of(index), SMALL);
             self.tally.whole += 1;
             self.tally.whole_bytes += image.len() as u64;
-            every_copy(&mut rng, &image, &mut |way, bytes| self.see(kind, way, bytes));
+            every_copy(&mut rng, &image, &mut |way, bytes| self.see(&asked, way, bytes));
             index += 1;
         }
     }
@@ -90,38 +96,22 @@ impl Comparison {
         while self.left > 0 {
             // not the images that every_copy took
             let mut rng = Rng::of_case(!seed, index);
-            let kind = Kind::ALL[index as usize % Kind::ALL.len()];
-            let (image, other) = (image(&mut rng, kind, usize::MAX), image(&mut rng, kind, SMALL));
+            let (asked, one) = image(&mut rng, kind_of(index), usize::MAX);
+            let (_, other) = image(&mut rng, kind_of(index), SMALL);
             for _ in 0..50 {
-                self.see(kind, Way::Spliced, &spliced(&mut rng, &image, &other));
+                self.see(&asked, Way::Spliced, &spliced(&mut rng, &one, &other));
             }
             index += 1;
         }
     }
 }
 
-/// An image of at most so many bytes: one that makes sense, or one of any shape.
-fn image(rng: &mut Rng, kind: Kind, most: usize) -> Vec<u8> {
-    loop {
-        let image = if rng.once_in(3) { any_image(rng, kind) } else { sensible_image(rng, kind) };
-        if image.len() <= most && rust(kind, &image).number != kind.none() {
-            return image;
-        }
-    }
+fn kind_of(index: u64) -> Kind {
+    Kind::ALL[index as usize % Kind::ALL.len()]
 }
 
-fn any_image(rng: &mut Rng, kind: Kind) -> Vec<u8> {
-    let image = match kind {
-        Kind::Statement => any_statement(rng).encode(),
-        Kind::Catalogue => any_catalogue(rng).encode(),
-    };
-    image.unwrap_or_default()
-}
-
-fn sensible_image(rng: &mut Rng, kind: Kind) -> Vec<u8> {
-    let case = planted(rng.draw(), 0).case;
-    match kind {
-        Kind::Statement => case.statement,
-        Kind::Catalogue => case.catalogue,
-    }
+/// A small image of a seed, by its number.
+pub fn small_image(seed: u64, index: u64) -> (Kind, Vec<u8>) {
+    let kind = kind_of(index);
+    (kind, image(&mut Rng::of_case(seed, index), kind, SMALL).1)
 }

@@ -3,10 +3,11 @@
 use std::hint::black_box;
 
 use images::catalogue::{Catalogue, Column, Table};
+use images::row::Row;
 use images::statement::{
     Delete, DeleteFrom, Expression, Insert, Name, Node, ObjectName, Source, Statement, Tree, Values,
 };
-use images::value::{ColumnType, Operator};
+use images::value::{ColumnType, Operator, Value};
 
 /// A function that is measured, and its symbol, by which a profiler knows it.
 #[derive(Clone, Copy)]
@@ -27,13 +28,19 @@ pub const READ_CATALOGUE: Measured = Measured {
         black_box(sirklemet::read_catalogue(bytes));
     },
 };
+pub const IS_ROW: Measured = Measured {
+    symbol: "sirklemet_is_row",
+    call: |bytes| {
+        black_box(sirklemet::is_row(bytes));
+    },
+};
 pub const PASS: Measured = Measured {
     symbol: "plain_pass",
     call: |bytes| {
         black_box(plain_pass(bytes));
     },
 };
-pub const ALL: [Measured; 3] = [IS_STATEMENT, READ_CATALOGUE, PASS];
+pub const ALL: [Measured; 4] = [IS_STATEMENT, READ_CATALOGUE, IS_ROW, PASS];
 
 /// The sum of all bytes.
 #[unsafe(no_mangle)]
@@ -58,7 +65,8 @@ pub fn cases() -> Vec<Case> {
     let runs = sizes.iter().map(|size| statement("DELETE, one run of nodes", *size, long_condition));
     let texts = sizes.iter().map(|size| statement("raw text, ASCII", *size, |length| text("a", length)));
     let others = sizes.iter().map(|size| statement("raw text, 2 bytes a character", *size, |length| text("é", length)));
-    grown.chain([long_names()]).chain(inserts).chain(runs).chain(texts).chain(others).collect()
+    let rows = [4, 64, 1_024].into_iter().map(row);
+    grown.chain([long_names()]).chain(rows).chain(inserts).chain(runs).chain(texts).chain(others).collect()
 }
 
 fn column(number: usize) -> Column {
@@ -84,6 +92,14 @@ fn grown_catalogue(tables: usize, columns: usize) -> Case {
 fn long_names() -> Case {
     let named = |number: usize| table(number, format!("{}{number:03}", "n".repeat(125)), 1);
     catalogue_case("catalogue, 256 x 1, long names".to_string(), (0..256).map(named).collect())
+}
+
+/// A row of INT, TEXT, BOOL and NULL in turn.
+fn row(values: usize) -> Case {
+    let kinds = [Value::Int(41), Value::Text("A-100".to_string()), Value::Bool(true), Value::Null];
+    let row = Row { values: kinds.into_iter().cycle().take(values).collect() };
+    let bytes = row.encode().expect("a row of this size has an image");
+    Case { name: format!("row, {values} values"), bytes, reader: IS_ROW }
 }
 
 /// The largest statement that `make` makes within so many bytes.

@@ -2,9 +2,9 @@
 
 use images::bytes::Damage;
 use images::told::Told;
-use images::{catalogue, statement};
+use images::{catalogue, row, statement};
 
-use crate::sides::{Kind, rust};
+use crate::sides::{Asked, Kind, rust};
 
 pub struct Mistake {
     pub name: &'static str,
@@ -21,7 +21,7 @@ enum Lack {
     Taken,
 }
 
-use Kind::{Catalogue, Statement};
+use Kind::{Catalogue, Row, RowOf, Statement};
 use Lack::{Mended, Taken};
 
 const fn mistake(name: &'static str, kind: Kind, words: &'static str, lack: Lack) -> Mistake {
@@ -59,6 +59,13 @@ pub const MISTAKES: &[Mistake] = &[
     mistake("columns-up-to-65", Catalogue, "65 columns, and 64", Taken),
     mistake("tables-up-to-257", Catalogue, "257 tables, and 256", Taken),
     mistake("bytes-up-to-65537", Catalogue, "65537 bytes, and 65536", Taken),
+    mistake("any-truth-value", Row, "is no code here, the last is 1", Mended(|bytes, damage| bytes[damage.at] = 1)),
+    mistake("any-text-in-a-row", Row, "value: the text is not UTF-8", Mended(as_ascii)),
+    mistake("bytes-behind-a-value", Row, "stand behind its last field", Taken),
+    mistake("sum-of-a-row's-lengths", Row, "the lengths add up to", Taken),
+    mistake("value-of-any-type", RowOf, "takes", Taken),
+    mistake("any-number-of-values", RowOf, "values and the table", Taken),
+    mistake("row-of-no-table", RowOf, "there are only", Taken),
 ];
 
 pub fn named(name: &str) -> Option<&'static Mistake> {
@@ -66,28 +73,28 @@ pub fn named(name: &str) -> Option<&'static Mistake> {
 }
 
 impl Mistake {
-    pub fn told(&self, kind: Kind, bytes: &[u8]) -> Told {
-        if kind != self.kind {
-            return rust(kind, bytes);
+    pub fn told(&self, asked: &Asked, bytes: &[u8]) -> Told {
+        if asked.kind() != self.kind {
+            return rust(asked, bytes);
         }
         match self.lack {
-            Taken => self.taking(bytes),
-            Mended(mend) => self.mending(bytes.to_vec(), mend),
+            Taken => self.taking(asked, bytes),
+            Mended(mend) => self.mending(asked, bytes.to_vec(), mend),
         }
     }
 
-    fn taking(&self, bytes: &[u8]) -> Told {
-        let told = rust(self.kind, bytes);
+    fn taking(&self, asked: &Asked, bytes: &[u8]) -> Told {
+        let told = rust(asked, bytes);
         if told.reason.contains(self.words) { Told { number: 0, ..told } } else { told }
     }
 
-    fn mending(&self, mut bytes: Vec<u8>, mend: fn(&mut [u8], &Damage)) -> Told {
+    fn mending(&self, asked: &Asked, mut bytes: Vec<u8>, mend: fn(&mut [u8], &Damage)) -> Told {
         while let Some(damage) = found(self.kind, &bytes)
             && damage.message.contains(self.words)
         {
             mend(&mut bytes, &damage);
         }
-        rust(self.kind, &bytes)
+        rust(asked, &bytes)
     }
 }
 
@@ -95,6 +102,7 @@ fn found(kind: Kind, bytes: &[u8]) -> Option<Damage> {
     match kind {
         Statement => statement::decode(bytes).err(),
         Catalogue => catalogue::decode(bytes).err(),
+        Row | RowOf => row::decode(bytes).err(),
     }
 }
 
