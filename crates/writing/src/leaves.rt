@@ -1,6 +1,6 @@
 // The contents of leaves: column references and values.
 use crate::Leaf;
-use bound::columns::put_column_ref;
+use crate::columns::put_found;
 use bound::values::put_bool;
 use bound::values::put_int;
 use bound::values::put_null;
@@ -54,16 +54,13 @@ fn put_column(t: &[u8], quoted: bool, name: &[u8], out: &mut [u8], at: usize) ->
 {
     match find_column(t, quoted, name) {
         Named::Is(c) => {
-            let id = c.id;
-            let ordinal = c.ordinal;
-            let ty = c.ty;
-            let null = c.nullable;
             let start = c.start;
             let stop = c.end;
-            let end = put_column_ref(out, at, table_id(t), id, ordinal, ty, null, &t[start..stop]);
+            let end = put_found(out, at, table_id(t), c, &t[start..stop]);
+            let ty = c.ty;
             Leaf {
                 kind: 0,
-                mark: column_mark(ty, null),
+                mark: column_mark(ty, c.nullable),
                 end,
             }
         }

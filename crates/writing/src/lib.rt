@@ -1,5 +1,6 @@
 // Writes the bound expression of an expression over a table: one row for each of its nodes, operands first, and the contents of its leaves.
 // Rows and contents are written side by side. Binding is known to be given here, and to have room.
+pub mod columns;
 mod counts;
 mod leaves;
 mod nodes;
@@ -116,16 +117,8 @@ fn write_unary(
         return put_root(out, row, l.kind, l.mark, 0, from, l.end - content);
     }
     let a = write(t, e, below, out, row, content, from);
-    let m = a.mark;
-    put_root(
-        out,
-        row,
-        k - 10,
-        one_operand(k, m),
-        a.nodes,
-        from,
-        a.content,
-    )
+    let m = one_operand(k, a.mark);
+    put_root(out, row, k - 10, m, a.nodes, from, a.content)
 }
 
 fn write_binary(
@@ -145,26 +138,21 @@ fn write_binary(
     let right = i - 1;
     let left = right - span(e, right);
     let a = write(t, e, left, out, row, content, from);
+    let nodes = a.nodes;
+    let bytes = a.content;
     let b = write(
         t,
         e,
         right,
         out,
-        row + 11 * a.nodes,
-        content + a.content,
-        from + a.content,
+        row + 11 * nodes,
+        content + bytes,
+        from + bytes,
     );
-    let m = a.mark;
-    let n = b.mark;
-    put_root(
-        out,
-        row,
-        k - 9,
-        two_operands(k, m, n),
-        a.nodes + b.nodes,
-        from,
-        a.content + b.content,
-    )
+    let more = b.nodes;
+    let rest = b.content;
+    let m = two_operands(k, a.mark, b.mark);
+    put_root(out, row, k - 9, m, nodes + more, from, bytes + rest)
 }
 
 // The bound expression of the whole expression e over the table t.

@@ -206,80 +206,80 @@ module _ (t : ℕ) where
 
   write-binary-mul-write : write-binary-lts.Need-mul-write write-binary-calls write-binary-at write-binary.Post
   write-binary-mul-write c =
-      let s = c .before .before .before .before .before .before .before .before .before .before in
+      let s = c .before .before .before .before .before .before .before .before .before in
       let w = s .pre .1 .0 in
-      omega (arith, left-rows w (binary-binds (w .binds) _ (s .pre .1 .1 .0) (s .pre .1 .1 .1) _ (c .before .before .before .before .before .before .span .ensures)) (c .before .before .before .before .write .ensures))
+      omega (arith, left-rows w (binary-binds (w .binds) _ (s .pre .1 .1 .0) (s .pre .1 .1 .1) _ (c .before .before .before .before .before .span .ensures)) (c .before .before .before .write .ensures))
 
   write-binary-add-write : write-binary-lts.Need-add-write write-binary-calls write-binary-at write-binary.Post
   write-binary-add-write c =
-      let s = c .before .before .before .before .before .before .before .before .before .before in
+      let s = c .before .before .before .before .before .before .before .before .before in
       let w = s .pre .1 .0 in
-      omega (arith, left-rows w (binary-binds (w .binds) _ (s .pre .1 .1 .0) (s .pre .1 .1 .1) _ (c .before .before .before .before .before .before .span .ensures)) (c .before .before .before .before .write .ensures))
+      omega (arith, left-rows w (binary-binds (w .binds) _ (s .pre .1 .1 .0) (s .pre .1 .1 .1) _ (c .before .before .before .before .before .span .ensures)) (c .before .before .before .write .ensures))
 
   write-binary-add-write-2 : write-binary-lts.Need-add-write-2 write-binary-calls write-binary-at write-binary.Post
   write-binary-add-write-2 c =
-      let s = c .before .before .before .before .before .before .before .before .before .before .before in
+      let s = c .before .before .before .before .before .before .before .before .before in
       let w = s .pre .1 .0 in
-      omega (arith, left-contents w (binary-binds (w .binds) _ (s .pre .1 .1 .0) (s .pre .1 .1 .1) _ (c .before .before .before .before .before .before .before .span .ensures)) (c .before .before .before .before .before .write .ensures))
+      omega (arith, left-contents w (binary-binds (w .binds) _ (s .pre .1 .1 .0) (s .pre .1 .1 .1) _ (c .before .before .before .before .before .span .ensures)) (c .before .before .before .write .ensures))
 
   write-binary-add-write-3 : write-binary-lts.Need-add-write-3 write-binary-calls write-binary-at write-binary.Post
   write-binary-add-write-3 c =
-      let s = c .before .before .before .before .before .before .before .before .before .before .before .before in
+      let s = c .before .before .before .before .before .before .before .before .before in
       let w = s .pre .1 .0 in
-      omega (arith, w .front, left-contents w (binary-binds (w .binds) _ (s .pre .1 .1 .0) (s .pre .1 .1 .1) _ (c .before .before .before .before .before .before .before .before .span .ensures)) (c .before .before .before .before .before .before .write .ensures))
+      omega (arith, w .front, left-contents w (binary-binds (w .binds) _ (s .pre .1 .1 .0) (s .pre .1 .1 .1) _ (c .before .before .before .before .before .span .ensures)) (c .before .before .before .write .ensures))
 
   write-binary-write-requires-2 : write-binary-lts.Need-write-requires-2 write-binary-calls write-binary-at write-binary.Post
   write-binary-write-requires-2 c κs =
-      let s = c .before .before .before .before .before .before .before .before .before .before .before .before in
+      let s = c .before .before .before .before .before .before .before .before .before in
       let w = s .pre .1 .0 in
-      let u = binary-binds (w .binds) _ (s .pre .1 .1 .0) (s .pre .1 .1 .1) _ (c .before .before .before .before .before .before .before .before .span .ensures) in
-      let o = last-operand (known (c .before .before .before .before .before .before .before .before .before .before .shared-slice-known2 .given)) (w .node) _ (s .pre .1 .1 .0) (omega arith) in
-      (omega (arith, s .pre .0, o .0), right-writable w u (o .1) (first w u (c .before .before .before .before .before .before .write .ensures)))
-
-  write-binary-sub-put-root : write-binary-lts.Need-sub-put-root write-binary-calls write-binary-at write-binary.Post
-  write-binary-sub-put-root c = let s = c .before .before .before .before .before .before .before .before .before .before .before .before .before .before .before .before .before .before in omega (arith, s .pre .1 .1 .1)
+      let u = binary-binds (w .binds) _ (s .pre .1 .1 .0) (s .pre .1 .1 .1) _ (c .before .before .before .before .before .span .ensures) in
+      let o = last-operand (known (c .before .before .before .before .before .before .before .shared-slice-known2 .given)) (w .node) _ (s .pre .1 .1 .0) (omega arith) in
+      (omega (arith, s .pre .0, o .0), right-writable w u (o .1) (first w u (c .before .before .before .write .ensures)))
 
   write-binary-two-operands-requires : write-binary-lts.Need-two-operands-requires write-binary-calls write-binary-at write-binary.Post
   write-binary-two-operands-requires c κs =
-      let s = c .before .before .before .before .before .before .before .before .before .before .before .before .before .before .before .before .before .before in
+      let s = c .before .before .before .before .before .before .before .before .before .before .before .before in
       let w = s .pre .1 .0 in
-      let u = binary-binds (w .binds) _ (s .pre .1 .1 .0) (s .pre .1 .1 .1) _ (c .before .before .before .before .before .before .before .before .before .before .before .before .before .before .span .ensures) in
-      ((s .pre .1 .1 .1, known-kind (known (c .before .before .before .before .before .before .before .before .before .before .before .before .before .before .before .before .shared-slice-known2 .given)) (w .node) _ (s .pre .1 .1 .0)), bin-fine w u (c .before .before .before .before .before .before .before .before .before .before .before .before .write .ensures) (c .before .before .before .before .before .write2 .ensures))
+      let u = binary-binds (w .binds) _ (s .pre .1 .1 .0) (s .pre .1 .1 .1) _ (c .before .before .before .before .before .before .before .before .span .ensures) in
+      ((s .pre .1 .1 .1, known-kind (known (c .before .before .before .before .before .before .before .before .before .before .shared-slice-known2 .given)) (w .node) _ (s .pre .1 .1 .0)), bin-fine w u (c .before .before .before .before .before .before .write .ensures) (c .before .before .write2 .ensures))
+
+  write-binary-sub-put-root : write-binary-lts.Need-sub-put-root write-binary-calls write-binary-at write-binary.Post
+  write-binary-sub-put-root c = let s = c .before .before .before .before .before .before .before .before .before .before .before .before .before .before in omega (arith, s .pre .1 .1 .1)
 
   write-binary-add-put-root : write-binary-lts.Need-add-put-root write-binary-calls write-binary-at write-binary.Post
   write-binary-add-put-root c =
-      let s = c .before .before .before .before .before .before .before .before .before .before .before .before .before .before .before .before .before .before .before .before .before in
+      let s = c .before .before .before .before .before .before .before .before .before .before .before .before .before .before in
       let w = s .pre .1 .0 in
-      let u = binary-binds (w .binds) _ (s .pre .1 .1 .0) (s .pre .1 .1 .1) _ (c .before .before .before .before .before .before .before .before .before .before .before .before .before .before .before .before .before .span .ensures) in
-      omega (arith, bin-sums w u (c .before .before .before .before .before .before .before .before .before .before .before .before .before .before .before .write .ensures) (c .before .before .before .before .before .before .before .before .write2 .ensures))
+      let u = binary-binds (w .binds) _ (s .pre .1 .1 .0) (s .pre .1 .1 .1) _ (c .before .before .before .before .before .before .before .before .before .before .span .ensures) in
+      omega (arith, bin-sums w u (c .before .before .before .before .before .before .before .before .write .ensures) (c .before .before .before .before .write2 .ensures))
 
   write-binary-add-put-root-2 : write-binary-lts.Need-add-put-root-2 write-binary-calls write-binary-at write-binary.Post
   write-binary-add-put-root-2 c =
-      let s = c .before .before .before .before .before .before .before .before .before .before .before .before .before .before .before .before .before .before .before .before .before .before .before in
+      let s = c .before .before .before .before .before .before .before .before .before .before .before .before .before .before in
       let w = s .pre .1 .0 in
-      let u = binary-binds (w .binds) _ (s .pre .1 .1 .0) (s .pre .1 .1 .1) _ (c .before .before .before .before .before .before .before .before .before .before .before .before .before .before .before .before .before .before .before .span .ensures) in
-      omega (arith, bin-sums w u (c .before .before .before .before .before .before .before .before .before .before .before .before .before .before .before .before .before .write .ensures) (c .before .before .before .before .before .before .before .before .before .before .write2 .ensures))
+      let u = binary-binds (w .binds) _ (s .pre .1 .1 .0) (s .pre .1 .1 .1) _ (c .before .before .before .before .before .before .before .before .before .before .span .ensures) in
+      omega (arith, bin-sums w u (c .before .before .before .before .before .before .before .before .write .ensures) (c .before .before .before .before .write2 .ensures))
 
   write-binary-put-root-requires : write-binary-lts.Need-put-root-requires write-binary-calls write-binary-at write-binary.Post
   write-binary-put-root-requires c κs =
-      let s = c .before .before .before .before .before .before .before .before .before .before .before .before .before .before .before .before .before .before .before .before .before .before .before in
+      let s = c .before .before .before .before .before .before .before .before .before .before .before .before .before .before in
       let w = s .pre .1 .0 in
-      let u = binary-binds (w .binds) _ (s .pre .1 .1 .0) (s .pre .1 .1 .1) _ (c .before .before .before .before .before .before .before .before .before .before .before .before .before .before .before .before .before .before .before .span .ensures) in
-      bin-root w u (c .before .before .before .before .before .before .before .before .before .before .before .before .before .before .before .before .before .write .ensures) (c .before .before .before .before .before .before .before .before .before .before .write2 .ensures)
+      let u = binary-binds (w .binds) _ (s .pre .1 .1 .0) (s .pre .1 .1 .1) _ (c .before .before .before .before .before .before .before .before .before .before .span .ensures) in
+      bin-root w u (c .before .before .before .before .before .before .before .before .write .ensures) (c .before .before .before .before .write2 .ensures)
 
   write-binary-same-length : write-binary-lts.Need-same-length write-binary-calls write-binary-at write-binary.Post
   write-binary-same-length c =
-      let s = c .before .before .before .before .before .before .before .before .before .before .before .before .before .before .before .before .before .before .before .before .before .before .before .before .before .before in
+      let s = c .before .before .before .before .before .before .before .before .before .before .before .before .before .before .before .before .before in
       let w = s .pre .1 .0 in
-      let u = binary-binds (w .binds) _ (s .pre .1 .1 .0) (s .pre .1 .1 .1) _ (c .before .before .before .before .before .before .before .before .before .before .before .before .before .before .before .before .before .before .before .before .before .before .span .ensures) in
-      bin-long w u (c .before .before .before .before .before .before .before .before .before .before .before .before .before .before .before .before .before .before .before .before .write .ensures) (c .before .before .before .before .before .before .before .before .before .before .before .before .before .write2 .ensures) (c .before .before .put-root .ensures)
+      let u = binary-binds (w .binds) _ (s .pre .1 .1 .0) (s .pre .1 .1 .1) _ (c .before .before .before .before .before .before .before .before .before .before .before .before .before .span .ensures) in
+      bin-long w u (c .before .before .before .before .before .before .before .before .before .before .before .write .ensures) (c .before .before .before .before .before .before .before .write2 .ensures) (c .before .before .put-root .ensures)
 
   write-binary-returns : write-binary-lts.Need-returns write-binary-calls write-binary-at write-binary.Post
   write-binary-returns c =
-      let s = c .before .before .before .before .before .before .before .before .before .before .before .before .before .before .before .before .before .before .before .before .before .before .before .before .before .before in
+      let s = c .before .before .before .before .before .before .before .before .before .before .before .before .before .before .before .before .before in
       let w = s .pre .1 .0 in
-      let u = binary-binds (w .binds) _ (s .pre .1 .1 .0) (s .pre .1 .1 .1) _ (c .before .before .before .before .before .before .before .before .before .before .before .before .before .before .before .before .before .before .before .before .before .before .span .ensures) in
-      bin-writes w u (c .before .before .before .before .before .before .before .before .before .before .before .before .before .before .before .before .before .before .before .before .write .ensures) (c .before .before .before .before .before .before .before .before .before .before .before .before .before .write2 .ensures) (c .before .before .before .before .before .before .before .two-operands .ensures) (c .before .before .put-root .ensures)
+      let u = binary-binds (w .binds) _ (s .pre .1 .1 .0) (s .pre .1 .1 .1) _ (c .before .before .before .before .before .before .before .before .before .before .before .before .before .span .ensures) in
+      bin-writes w u (c .before .before .before .before .before .before .before .before .before .before .before .write .ensures) (c .before .before .before .before .before .before .before .write2 .ensures) (c .before .before .before .before .two-operands .ensures) (c .before .before .put-root .ensures)
 
   write-null-test-sub-write : write-null-test-lts.Need-sub-write write-null-test-calls write-null-test-at write-null-test.Post
   write-null-test-sub-write c =
@@ -364,34 +364,34 @@ module _ (t : ℕ) where
       let o = last-operand (known (c .before .before .before .before .shared-slice-known2 .given)) (w .node) _ (s .pre .1 .1 .0) (omega arith) in
       (omega (arith, o .0), un-writable w (operator-binds (w .binds) _ (s .pre .1 .1 .0) (s .pre .1 .1 .1 .0) (s .pre .1 .1 .1 .1) (sym (c .before .before .signs-number .ensures) ∙ c .before .if1 .left)) (o .1))
 
+  write-unary-one-operand-requires : write-unary-lts.Need-one-operand-requires write-unary-calls write-unary-at write-unary.Post
+  write-unary-one-operand-requires c κs =
+      let s = c .before .before .before .before .before .before .before .before .before in
+      let w = s .pre .1 .0 in
+      (s .pre .1 .1 .1, un-fine w (operator-binds (w .binds) _ (s .pre .1 .1 .0) (s .pre .1 .1 .1 .0) (s .pre .1 .1 .1 .1) (sym (c .before .before .before .before .before .signs-number .ensures) ∙ c .before .before .before .before .if1 .left)) (c .before .before .write .ensures))
+
   write-unary-sub-put-root-2 : write-unary-lts.Need-sub-put-root-2 write-unary-calls write-unary-at write-unary.Post
   write-unary-sub-put-root-2 c = let s = c .before .before .before .before .before .before .before .before .before .before .before in omega (arith, s .pre .1 .1 .1 .0)
 
-  write-unary-one-operand-requires : write-unary-lts.Need-one-operand-requires write-unary-calls write-unary-at write-unary.Post
-  write-unary-one-operand-requires c κs =
-      let s = c .before .before .before .before .before .before .before .before .before .before .before in
-      let w = s .pre .1 .0 in
-      (s .pre .1 .1 .1, un-fine w (operator-binds (w .binds) _ (s .pre .1 .1 .0) (s .pre .1 .1 .1 .0) (s .pre .1 .1 .1 .1) (sym (c .before .before .before .before .before .before .before .signs-number .ensures) ∙ c .before .before .before .before .before .before .if1 .left)) (c .before .before .before .before .write .ensures))
-
   write-unary-put-root-requires-2 : write-unary-lts.Need-put-root-requires-2 write-unary-calls write-unary-at write-unary.Post
   write-unary-put-root-requires-2 c κs =
-      let s = c .before .before .before .before .before .before .before .before .before .before .before .before in
+      let s = c .before .before .before .before .before .before .before .before .before .before .before in
       let w = s .pre .1 .0 in
-      un-root w (operator-binds (w .binds) _ (s .pre .1 .1 .0) (s .pre .1 .1 .1 .0) (s .pre .1 .1 .1 .1) (sym (c .before .before .before .before .before .before .before .before .signs-number .ensures) ∙ c .before .before .before .before .before .before .before .if1 .left)) (c .before .before .before .before .before .write .ensures)
+      un-root w (operator-binds (w .binds) _ (s .pre .1 .1 .0) (s .pre .1 .1 .1 .0) (s .pre .1 .1 .1 .1) (sym (c .before .before .before .before .before .before .before .signs-number .ensures) ∙ c .before .before .before .before .before .before .if1 .left)) (c .before .before .before .before .write .ensures)
 
   write-unary-same-length-2 : write-unary-lts.Need-same-length-2 write-unary-calls write-unary-at write-unary.Post
   write-unary-same-length-2 c = search needs
 
   write-unary-returns-2 : write-unary-lts.Need-returns-2 write-unary-calls write-unary-at write-unary.Post
   write-unary-returns-2 c =
-      let s = c .before .before .before .before .before .before .before .before .before .before .before .before .before .before .before in
+      let s = c .before .before .before .before .before .before .before .before .before .before .before .before .before .before in
       let w = s .pre .1 .0 in
-      operator-writes w (operator-binds (w .binds) _ (s .pre .1 .1 .0) (s .pre .1 .1 .1 .0) (s .pre .1 .1 .1 .1) (sym (c .before .before .before .before .before .before .before .before .before .before .before .signs-number .ensures) ∙ c .before .before .before .before .before .before .before .before .before .before .if1 .left)) (c .before .before .before .before .before .before .before .before .write .ensures) (c .before .before .before .one-operand .ensures) (c .before .before .put-root2 .ensures)
+      operator-writes w (operator-binds (w .binds) _ (s .pre .1 .1 .0) (s .pre .1 .1 .1 .0) (s .pre .1 .1 .1 .1) (sym (c .before .before .before .before .before .before .before .before .before .before .signs-number .ensures) ∙ c .before .before .before .before .before .before .before .before .before .if1 .left)) (c .before .before .before .before .before .before .before .write .ensures) (c .before .before .before .before .one-operand .ensures) (c .before .before .put-root2 .ensures)
 
 pub +write+write-binary+write-null-test+write-unary-spec : {M : Type 1} → statement M
 +write+write-binary+write-null-test+write-unary-spec =
     close μ-write μ-write-binary μ-write-null-test μ-write-unary
     (λ t. write-lts.spec (write-calls t) (write-at t) write.Post (write-kind-requires t) (write-put-content-requires t) (write-sub-put-root t) (write-put-root-requires t) (write-same-length t) (write-returns t) (write-write-binary-requires t) (write-same-length-2 t) (write-returns-2 t) (write-sub-write t) (write-write-requires t) (write-same-length-3 t) (write-returns-3 t) (write-write-null-test-requires t) (write-same-length-4 t) (write-returns-4 t) (write-write-unary-requires t) (write-same-length-5 t) (write-returns-5 t))
-    (λ t. write-binary-lts.spec (write-binary-calls t) (write-binary-at t) write-binary.Post (write-binary-sub-right t) (write-binary-span-requires t) (write-binary-sub-left t) (write-binary-write-requires t) (write-binary-mul-write t) (write-binary-add-write t) (write-binary-add-write-2 t) (write-binary-add-write-3 t) (write-binary-write-requires-2 t) (write-binary-sub-put-root t) (write-binary-two-operands-requires t) (write-binary-add-put-root t) (write-binary-add-put-root-2 t) (write-binary-put-root-requires t) (write-binary-same-length t) (write-binary-returns t))
+    (λ t. write-binary-lts.spec (write-binary-calls t) (write-binary-at t) write-binary.Post (write-binary-sub-right t) (write-binary-span-requires t) (write-binary-sub-left t) (write-binary-write-requires t) (write-binary-mul-write t) (write-binary-add-write t) (write-binary-add-write-2 t) (write-binary-add-write-3 t) (write-binary-write-requires-2 t) (write-binary-two-operands-requires t) (write-binary-sub-put-root t) (write-binary-add-put-root t) (write-binary-add-put-root-2 t) (write-binary-put-root-requires t) (write-binary-same-length t) (write-binary-returns t))
     (λ t. write-null-test-lts.spec (write-null-test-calls t) (write-null-test-at t) write-null-test.Post (write-null-test-sub-write t) (write-null-test-write-requires t) (write-null-test-sub-put-root t) (write-null-test-null-test-requires t) (write-null-test-put-root-requires t) (write-null-test-same-length t) (write-null-test-returns t))
-    (λ t. write-unary-lts.spec (write-unary-calls t) (write-unary-at t) write-unary.Post (write-unary-sub-below t) (write-unary-signs-number-requires t) (write-unary-text-requires t) (write-unary-put-number-requires t) (write-unary-sub-put-root t) (write-unary-put-root-requires t) (write-unary-same-length t) (write-unary-returns t) (write-unary-write-requires t) (write-unary-sub-put-root-2 t) (write-unary-one-operand-requires t) (write-unary-put-root-requires-2 t) (write-unary-same-length-2 t) (write-unary-returns-2 t))
+    (λ t. write-unary-lts.spec (write-unary-calls t) (write-unary-at t) write-unary.Post (write-unary-sub-below t) (write-unary-signs-number-requires t) (write-unary-text-requires t) (write-unary-put-number-requires t) (write-unary-sub-put-root t) (write-unary-put-root-requires t) (write-unary-same-length t) (write-unary-returns t) (write-unary-write-requires t) (write-unary-one-operand-requires t) (write-unary-sub-put-root-2 t) (write-unary-put-root-requires-2 t) (write-unary-same-length-2 t) (write-unary-returns-2 t))

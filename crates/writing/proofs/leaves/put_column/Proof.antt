@@ -7,35 +7,35 @@ use Rattle.writing.proofs.leaves.put_column.Statement.{statement}
 use Rattle.writing.proofs.leaves.put_column.Tie as tie
 
 find-column-requires : tie.Need-find-column-requires
-find-column-requires c κs = (is-held (c .before .before .before .pre .1 .rule .holds), c .before .before .before .pre .0)
+find-column-requires c κs = let s = c .before .before .before in (is-held (s .pre .1 .rule .holds), s .pre .0)
 
 enum-known-c : tie.Need-enum-known-c
 enum-known-c c = search needs
 
 table-id-requires : tie.Need-table-id-requires
-table-id-requires c κs = is-held (c .before .before .before .before .before .before .before .before .before .before .pre .1 .rule .holds)
+table-id-requires c κs = is-held (c .before .before .before .before .before .before .before .before .pre .1 .rule .holds)
 
-sub-put-column-ref : tie.Need-sub-put-column-ref
-sub-put-column-ref c =
-    let s = c .before .before .before .before .before .before .before .before .before .before .before in
-    column-lies (s .args .t .now) (s .args .quoted) (s .args .name .now) _ (c .before .before .before .before .before .before .before .find-column .ensures) _ (c .before .before .before .before .before .c .given .1) (s .pre .1) .0
+sub-put-found : tie.Need-sub-put-found
+sub-put-found c =
+    let s = c .before .before .before .before .before .before .before .before .before in
+    column-lies (s .args .t .now) (s .args .quoted) (s .args .name .now) _ (c .before .before .before .before .before .find-column .ensures) _ (c .before .before .before .c .given .1) (s .pre .1) .0
 
-part-put-column-ref-start : tie.Need-part-put-column-ref-start
-part-put-column-ref-start c =
-    let s = c .before .before .before .before .before .before .before .before .before .before .before in
-    let l = column-lies (s .args .t .now) (s .args .quoted) (s .args .name .now) _ (c .before .before .before .before .before .before .before .find-column .ensures) _ (c .before .before .before .before .before .c .given .1) (s .pre .1) in
+part-put-found-start : tie.Need-part-put-found-start
+part-put-found-start c =
+    let s = c .before .before .before .before .before .before .before .before .before in
+    let l = column-lies (s .args .t .now) (s .args .quoted) (s .args .name .now) _ (c .before .before .before .before .before .find-column .ensures) _ (c .before .before .before .c .given .1) (s .pre .1) in
     search needs
 
-part-put-column-ref-end : tie.Need-part-put-column-ref-end
-part-put-column-ref-end c =
-    let s = c .before .before .before .before .before .before .before .before .before .before .before in
-    let l = column-lies (s .args .t .now) (s .args .quoted) (s .args .name .now) _ (c .before .before .before .before .before .before .before .find-column .ensures) _ (c .before .before .before .before .before .c .given .1) (s .pre .1) in
+part-put-found-end : tie.Need-part-put-found-end
+part-put-found-end c =
+    let s = c .before .before .before .before .before .before .before .before .before in
+    let l = column-lies (s .args .t .now) (s .args .quoted) (s .args .name .now) _ (c .before .before .before .before .before .find-column .ensures) _ (c .before .before .before .c .given .1) (s .pre .1) in
     search needs
 
-put-column-ref-requires : tie.Need-put-column-ref-requires
-put-column-ref-requires c κs =
-    let s = c .before .before .before .before .before .before .before .before .before .before .before .before in
-    column-room (s .args .t .now) (s .args .quoted) (s .args .name .now) _ (c .before .before .before .before .before .before .before .before .find-column .ensures) _ (c .before .before .before .before .before .before .c .given .1) (s .pre .1)
+put-found-requires : tie.Need-put-found-requires
+put-found-requires c κs =
+    let s = c .before .before .before .before .before .before .before .before .before .before in
+    column-room (s .args .t .now) (s .args .quoted) (s .args .name .now) _ (c .before .before .before .before .before .before .find-column .ensures) _ (c .before .before .before .before .c .given .1) (s .pre .1)
 
 column-mark-requires : tie.Need-column-mark-requires
 column-mark-requires c κs = search needs
@@ -51,8 +51,8 @@ same-length c = search needs
 
 returns : tie.Need-returns
 returns c =
-    let s = c .before .before .before .before .before .before .before .before .before .before .before .before .before .before .before .before in
-    column-puts (s .args .t .now) (s .args .quoted) (s .args .name .now) _ (c .before .before .before .before .before .before .before .before .before .before .before .before .find-column .ensures) _ (c .before .before .before .before .before .before .before .before .before .before .c .given .1) _ _ (c .before .before .before .before .before .table-id .ensures) (c .column-mark .ensures) (c .before .before .before .put-column-ref .ensures)
+    let s = c .before .before .before .before .before .before .before .before .before .before .before .before .before .before in
+    column-puts (s .args .t .now) (s .args .quoted) (s .args .name .now) _ (c .before .before .before .before .before .before .before .before .before .before .find-column .ensures) _ (c .before .before .before .before .before .before .before .before .c .given .1) _ _ (c .before .before .before .before .before .table-id .ensures) (c .column-mark .ensures) (c .before .before .before .put-found .ensures)
 
 returns-2 : tie.Need-returns-2
 returns-2 c =
@@ -66,10 +66,10 @@ put-column-spec =
     find-column-requires
     enum-known-c
     table-id-requires
-    sub-put-column-ref
-    part-put-column-ref-start
-    part-put-column-ref-end
-    put-column-ref-requires
+    sub-put-found
+    part-put-found-start
+    part-put-found-end
+    put-found-requires
     column-mark-requires
     enum-told
     literal-requires
