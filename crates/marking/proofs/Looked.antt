@@ -7,14 +7,13 @@ use mathlib.Core.Option.{Option, none, some}
 use Prim.Native.Nat.{ℕ, _-_, _≤_}
 use native.Mathlib.Omega.{arith}
 use lib.IntN.{ℤ}
-use lib.ListN.{length, take, drop, length-drop}
+use lib.ListN.{length, drop, length-drop}
 use lib.Seq.{length-take-le}
 use Rattle.rules.specs.declared.Class.the-variants.{SchemaMismatch}
 use Rattle.rules.specs.declared.ExpressionType.{ExpressionType}
 use Rattle.rules.specs.declared.ExpressionType.the-variants as type
 use Rattle.rules.specs.declared.Mark.{Mark}
 use Rattle.rules.specs.Bound.{Value, BoundColumnRef}
-use Rattle.rules.specs.Lookup as lookup
 use Rattle.rules.specs.Lookup.{columnMark, columnByName}
 use Rattle.rules.specs.Names.{canonical}
 use Rattle.rules.specs.Marking.{columnLeaf, integerLeaf, literalLeaf}

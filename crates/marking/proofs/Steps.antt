@@ -4,7 +4,7 @@ use mathlib.Core.Path.{_≡_, _∙_, refl, sym, ap, ap₂}
 use mathlib.Core.Bool.{Bool, true, false, _&&_, true≢false}
 use mathlib.Core.List.{List}
 use mathlib.Core.Option.{Option, some, none}
-use Prim.Native.Nat.{ℕ, _+_, _-_, _<_, _≤_}
+use Prim.Native.Nat.{ℕ, _-_, _<_, _≤_}
 use native.Mathlib.Omega.{arith}
 use lib.Dec.{ltb, eqb, lit<}
 use lib.ListN.{length}
@@ -15,17 +15,15 @@ use Rattle.bundle.specs.Decides.{and-of}
 use Rattle.rules.specs.declared.BoundUnaryOperator.the-variants.{Positive, Negative, Not}
 use Rattle.rules.specs.declared.Refusal.{Refusal}
 use Rattle.rules.specs.Lists.{Text}
-use Rattle.rules.specs.Answers.{Answer, given, refused}
+use Rattle.rules.specs.Answers.{refused}
 use Rattle.rules.specs.Bound.{BoundExpr}
 use Rattle.rules.specs.Marking.{integerLeaf, leafRule, sign, leafNumber, numberIn, together, signedNumber, unaryRule, binaryRule, bindExpression}
-use Rattle.rules.specs.Theorems.Answered.{mapped}
 use Rattle.rules.specs.Numbers.{integerLiteral}
 use Rattle.rules.specs.Statements.{Leaf, Unary, parentheses, nullTest, unary, otherUnary, Expr}
 use Rattle.rules.specs.Tables.{TableSchema}
 use Rattle.catalogue.specs.Layout.{table}
-use Rattle.expression.specs.Expression.{expression}
 use Rattle.expression.specs.Place.{Node, nodeCount, nodeAt, leafKind, leafOf, unKind, unOf, binOf, top, Root}
-use Rattle.expression.specs.Heads.{leaf-range, un-range, bin-range, un-of}
+use Rattle.expression.specs.Heads.{leaf-range, bin-range, un-of}
 use Rattle.expression.specs.Trees.{kindOf}
 use Rattle.expression.specs.Laws.{placed, leaf-at, bin-at}
 use Rattle.bound.specs.Expression.{boundExpression}
@@ -34,9 +32,9 @@ use Rattle.marking.specs.declared.Measured.{Measured}
 use Rattle.marking.specs.declared.Marked.{Marked}
 use Rattle.marking.specs.declared.Marked.the-variants as marked
 use Rattle.marking.specs.declared.Sized.the-variants as sized
-use Rattle.marking.specs.Told.{measured, told, leafTold, after, nullTold, overOne, overTwo, unaryTold, sizeTold}
-use Rattle.marking.specs.Marks.{Marks, Sizes}
-use Rattle.marking.proofs.Told.{leaf-told, un-told, bin-told, refused-told, after-same, after-is}
+use Rattle.marking.specs.Told.{measured, leafTold, after, nullTold, overOne, overTwo, unaryTold}
+use Rattle.marking.specs.Marks.{Marks, Sizes, marked-is, marked-refused}
+use Rattle.marking.proofs.Told.{leaf-told, un-told, bin-told, after-same, after-is}
 
 -- ---- a sign directly over a number, by the two nodes' kinds
 
@@ -170,35 +168,26 @@ module _ (t e : List ℕ) (i k : ℕ) (is : k ≡ (nodeAt e i) .kind) (r : Marke
     unfolding bindExpression
     left-says q p z v h x g =
         let a = bin-at (nodeAt e) i k is n d x g lo in
-        let c : marked.Refused q ≡ told (mapped measured (bindExpression v (a .left))) = sym p ∙ left v h (a .left) (a .left-root) in
-        rw (a .is) (z ∙ refused-told (bindExpression v (a .left)) q c _)
+        rw (a .is, marked-refused t e h (i - 1 - n) (a .left) (a .left-root) left p) z
 
     pub bin-says : (m : Measured) → y ≡ marked.Is m → (z : Marked) → Marks t e (i - 1) z
         → r ≡ after z (overTwo (binaryRule (binOf k)) m) → Marks t e i r
     unfolding bindExpression
     bin-says m p z right q v h x g =
         let a = bin-at (nodeAt e) i k is n d x g lo in
-        let c : marked.Is m ≡ told (mapped measured (bindExpression v (a .left))) = sym p ∙ left v h (a .left) (a .left-root) in
-        rw (a .is) (q ∙ rw (right v h (a .right) (a .right-root)) (bin-told (binOf k) (bindExpression v (a .left)) (bindExpression v (a .right)) m c))
+        let w = marked-is t e h (i - 1 - n) (a .left) (a .left-root) left p in
+        rw (a .is, w .1)
+        (q ∙ ap (λ (c : Measured). after z (overTwo (binaryRule (binOf k)) c)) (sym (w .2))
+        ∙ rw (right v h (a .right) (a .right-root)) (bin-told (binOf k) (w .0) (bindExpression v (a .right))))
 
 -- ---- a whole expression
 
-size-told : (a : Answer BoundExpr) (m : Measured) → marked.Is m ≡ told (mapped measured a) → (k : ℕ)
-    → ((b : BoundExpr) → measured b ≡ m → k ≡ length (boundExpression .write b)) → sized.Is (m .mark) k ≡ sizeTold a
-size-told (given b) m h k f = let e : measured b ≡ m = cc in ap₂ sized.Is (sym (ap (λ (x : Measured). x .mark) e)) (f b e)
-size-told (refused q) m h k f = absurd (let n : _≡_ {A = ℕ} 0 1 = cc in omega arith)
-
-refused-size : (a : Answer BoundExpr) (q : Refusal) → marked.Refused q ≡ told (mapped measured a) → sized.Refused q ≡ sizeTold a
-refused-size (given b) q h = absurd (let n : _≡_ {A = ℕ} 0 1 = cc in omega arith)
-refused-size (refused r) q h = let e : q ≡ r = cc in ap sized.Refused e
-
 module _ (t e : List ℕ) (b : Bytes e) (n : ℕ) (is : n ≡ nodeCount e) (y : Marked) (s : Marks t e (n - 1) y) where
-  at-root : (v : TableSchema) → Holds table t v → (x : Expr) → Holds expression e x → y ≡ told (mapped measured (bindExpression v x))
-  at-root v h x g = s v h x (rw is (placed b g .0))
-
   pub size-says : (m : Measured) → y ≡ marked.Is m → (k : ℕ) → ((c : BoundExpr) → measured c ≡ m → k ≡ length (boundExpression .write c))
       → Sizes t e (sized.Is (m .mark) k)
-  size-says m p k f v h x g = size-told (bindExpression v x) m (sym p ∙ at-root v h x g) k f
+  size-says m p k f v h x g =
+      let w = marked-is t e h (n - 1) x (rw is (placed b g .0)) s p in
+      rw (w .1) (ap₂ sized.Is (sym (ap (λ (c : Measured). c .mark) (w .2))) (f (w .0) (w .2)))
 
   pub refused-says : (q : Refusal) → y ≡ marked.Refused q → Sizes t e (sized.Refused q)
-  refused-says q p v h x g = refused-size (bindExpression v x) q (sym p ∙ at-root v h x g)
+  refused-says q p v h x g = rw (marked-refused t e h (n - 1) x (rw is (placed b g .0)) s p)

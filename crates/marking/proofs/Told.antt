@@ -3,10 +3,8 @@
 use mathlib.Core.Path.{_≡_, refl}
 use Rattle.tree.specs.Tree.{un, bin, size}
 use Prim.Native.Nat.{ℕ, _+_}
-use native.Mathlib.Omega.{arith}
 use Rattle.rules.specs.declared.BoundBinaryOperator.{BoundBinaryOperator}
 use Rattle.rules.specs.declared.Mark.{Mark}
-use Rattle.rules.specs.declared.Refusal.{Refusal}
 use Rattle.rules.specs.Answers.{Answer, given, refused, _>>=_, Verdict, fine, flaw, judged}
 use Rattle.rules.specs.Bound as bound
 use Rattle.rules.specs.Bound.{BoundLeaf, BoundUnary, BoundExpr, markOf}
@@ -56,24 +54,18 @@ pub un-told : (o : Unary) (y : Answer BoundExpr)
 un-told o (given x) = over-one o x
 un-told o (refused q) = refl
 
--- two operands: the left one's answer is m, or its refusal stands
-over-two : (o : Binary) (x y : BoundExpr)
-    → overTwo (binaryRule o) (measured x) (measured y) ≡ told (mapped measured (judged (binaryRule o (markOf x) (markOf y)) >>= (λ m. given (boundBinary o m x y))))
+-- two operands, where the left one is bound to a
+over-two : (o : Binary) (a b : BoundExpr)
+    → overTwo (binaryRule o) (measured a) (measured b) ≡ told (mapped measured (judged (binaryRule o (markOf a) (markOf b)) >>= (λ m. given (boundBinary o m a b))))
 unfolding boundBinary binaryRule
-over-two (binary o) x y = bin-node (binaryRule (binary o) (markOf x) (markOf y)) o x y
-over-two otherBinary x y = refl
+over-two (binary o) a b = bin-node (binaryRule (binary o) (markOf a) (markOf b)) o a b
+over-two otherBinary a b = refl
 
-pub bin-told : (o : Binary) (y z : Answer BoundExpr) (m : Measured) → marked.Is m ≡ told (mapped measured y)
-    → after (told (mapped measured z)) (overTwo (binaryRule o) m)
-    ≡ told (mapped measured (y >>= (λ a. z >>= (λ b. judged (binaryRule o (markOf a) (markOf b)) >>= (λ n. given (boundBinary o n a b))))))
-bin-told o (given a) (given b) m h = let e : m ≡ measured a = cc in rw e (over-two o a b)
-bin-told o (given a) (refused q) m h = refl
-bin-told o (refused q) z m h = absurd (let n : _≡_ {A = ℕ} 0 1 = cc in omega arith)
-
-pub refused-told : (y : Answer BoundExpr) (q : Refusal) → marked.Refused q ≡ told (mapped measured y) → (f : BoundExpr → Answer BoundExpr)
-    → marked.Refused q ≡ told (mapped measured (y >>= f))
-refused-told (given a) q h f = absurd (let n : _≡_ {A = ℕ} 0 1 = cc in omega arith)
-refused-told (refused r) q h f = h
+pub bin-told : (o : Binary) (a : BoundExpr) (y : Answer BoundExpr)
+    → after (told (mapped measured y)) (overTwo (binaryRule o) (measured a))
+    ≡ told (mapped measured (y >>= (λ b. judged (binaryRule o (markOf a) (markOf b)) >>= (λ m. given (boundBinary o m a b)))))
+bin-told o a (given b) = over-two o a b
+bin-told o a (refused q) = refl
 
 pub after-same : (y : Marked) (f g : Measured → Marked) → ((m : Measured) → f m ≡ g m) → after y f ≡ after y g
 after-same (marked.Is m) f g h = h m

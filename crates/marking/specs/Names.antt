@@ -8,7 +8,6 @@ use Prim.Native.Nat.{ℕ, zero, suc, _+_, _≤_, _<_}
 use native.Mathlib.Nat.{eq-or-lt-of-le}
 use native.Mathlib.Omega.{arith}
 use borrow.Author.Tests.{leb-true}
-use lib.ListN.{length}
 use Rattle.wire.specs.Le.{Bytes}
 use Rattle.rules.specs.Lists.{all}
 use Rattle.rules.specs.Limits.{expressionNames, nameWithin}

@@ -1,22 +1,22 @@
 -- How large a bound expression is at most, where the names are within paper 01's limit: no sum of two sizes wraps, and the whole image's length
--- fits 4 bytes. A leaf holds at most 65,536 bytes, and more than half of the nodes of a tree with many leaves are none.
+-- fits 4 bytes. A leaf holds at most 65,536 bytes, and a tree of n nodes has at most (n + 1) / 2 leaves.
 -- Assumes nothing.
 use mathlib.Core.Path.{_≡_, _∙_, refl, sym, ap, subst}
-use mathlib.Core.Bool.{Bool, true, false, false≢true, _&&_}
-use mathlib.Core.List.{List, [], _∷_, map}
+use mathlib.Core.Bool.{Bool, true, false, false≢true}
+use mathlib.Core.List.{List, [], _∷_}
 use mathlib.Core.Option.{Option, none, some, Option·none-ne-some, Option·some-injective}
 use Prim.Native.Nat.{ℕ, _+_, _-_, _*_, _^_, _≤_, _<_}
 use native.Mathlib.Omega.{arith}
 use lib.Dec.{eqb}
 use lib.IntN.{ℤ}
-use lib.ListN.{length, take, drop, length-map}
+use lib.ListN.{length, drop, length-map}
 use Rattle.wire.specs.Le.{Bytes, num-take-below, drop-bytes}
 use Rattle.tree.specs.Tree.{leaf, un, bin, size}
 use Rattle.bundle.specs.Decides.{and-of}
 use Rattle.bundle.specs.Held.{Holds, held}
 use Rattle.rules.specs.declared.Mark.{Mark}
 use Rattle.rules.specs.Lists.{Text, same, find}
-use Rattle.rules.specs.Answers.{Answer, given, refused, _>>=_, Verdict, fine, flaw, judged}
+use Rattle.rules.specs.Answers.{given, _>>=_, Verdict, fine, flaw, judged}
 use Rattle.rules.specs.Bound as bound
 use Rattle.rules.specs.Bound.{BoundLeaf, BoundColumnRef, BoundExpr, markOf}
 use Rattle.rules.specs.Lookup.{refNamed, boundColumns, columnByName}
@@ -37,11 +37,11 @@ use Rattle.rules.specs.Marking.{
 }
 use Rattle.rules.specs.Statements.{Name, Leaf, Unary, parentheses, nullTest, unary, otherUnary, Binary, binary, otherBinary, Expr}
 use Rattle.rules.specs.Tables.{TableSchema}
-use Rattle.rules.specs.Theorems.Answered.{mapped, bind-given, mapped-given, judged-given, never-fine, never-given}
+use Rattle.rules.specs.Theorems.Answered.{bind-given, never-fine, never-given}
 use Rattle.catalogue.specs.Layout.{table}
 use Rattle.expression.specs.Expression.{expression}
 use Rattle.expression.specs.Place.{Node, nodeCount, endAt, nodeAt, nameKind, leafKind, leafText, top, Root, HasNode}
-use Rattle.expression.specs.Trees.{kindOf, textOf, root-size}
+use Rattle.expression.specs.Trees.{root-size}
 use Rattle.expression.specs.Layout.{text-length}
 use Rattle.expression.specs.Laws.{is-image, has-content, some-node, every-node, placed}
 use Rattle.bound.specs.Expression.{boundExpression}
@@ -50,8 +50,7 @@ use Rattle.bound.specs.Spelt as spelt
 use Rattle.marking.specs.declared.Measured.{Measured}
 use Rattle.marking.specs.declared.Marked.{Marked}
 use Rattle.marking.specs.declared.Marked.the-variants as marked
-use Rattle.marking.specs.Told.{measured, told}
-use Rattle.marking.specs.Marks.{NamesWithin, Markable, Marks}
+use Rattle.marking.specs.Marks.{NamesWithin, Markable, Marks, marked-is}
 
 pub record Small (m : Measured) : Type 0 where
   pub nodes : m .nodes < 65536
@@ -63,7 +62,7 @@ fine-same h = cc
 given-same : {A : Type 0} {a b : A} → given a ≡ given b → a ≡ b
 given-same h = cc
 
--- ---- an image's counts have two bytes
+-- ---- an image's number of nodes and the ends of its contents have two bytes each
 
 pub few-nodes : {s : List ℕ} → Bytes s → nodeCount s < 65536
 unfolding nodeCount
@@ -71,7 +70,9 @@ few-nodes {s} b = num-take-below 2 2 s b (omega arith)
 
 pub short-text : {s : List ℕ} {i : ℕ} → Bytes s → HasNode s i → length ((nodeAt s i) .text) < 65536
 unfolding endAt
-short-text {s} {i} b h = omega (arith, text-length s i (has-content b h), num-take-below 2 2 (drop (5 * i + 5) s) (drop-bytes (5 * i + 5) b) (omega arith))
+short-text {s} {i} b h =
+    let l : endAt s i < 65536 = num-take-below 2 2 (drop (5 * i + 5) s) (drop-bytes (5 * i + 5) b) (omega arith) in
+    omega (arith, text-length s i (has-content b h))
 
 -- ---- names
 
@@ -189,16 +190,12 @@ module _ (t : TableSchema) (v : ℕ → Node) (count : ℕ) (short : (j : ℕ) �
 nodes-short : {e : List ℕ} → Bytes e → NamesWithin e → ((j : ℕ) → j < nodeCount e → HasNode e j) → (j : ℕ) → j < nodeCount e → ShortNode (nodeAt e j)
 nodes-short b n h j l = (n .short j l, short-text b (h j l))
 
-told-is : (a : Answer Measured) {m : Measured} → marked.Is m ≡ told a → a ≡ given m
-told-is (given n) {m} h = cc
-told-is (refused r) {m} h = absurd (let z : _≡_ {A = ℕ} 0 1 = cc in omega arith)
-
 -- what marking answers is small
 pub small : {t e : List ℕ} {i : ℕ} → Bytes e → Markable t e i → {r : Marked} → Marks t e i r → {m : Measured} → r ≡ marked.Is m → Small m
-small {t} {e} {i} b k s {m} p =
+small {t} {e} {i} b k s p =
     held (k .table) (λ v h.
     let x = every-node b (k .node .image) i (k .node .within) in
-    let y = mapped-given measured (bindExpression v (x .tree)) m (told-is _ (sym p ∙ s v h (x .tree) (x .root))) in
+    let y = marked-is t e h i (x .tree) (x .root) s p in
     let w = within v (nodeAt e) (nodeCount e) (nodes-short b (k .names) (λ j l. record { image = k .node .image; within = l })) i (k .node .within) (x .tree) (x .root) (y .0) (y .1) in
     subst Small (y .2)
     (record { nodes = omega (arith, w .nodes, root-size (nodeAt e) i (x .tree) (x .root), few-nodes b, k .node .within); content = w .content }))

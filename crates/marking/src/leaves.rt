@@ -30,13 +30,25 @@ ghost use Rattle.rules.specs.Tables.{TableSchema};
 ghost use Rattle.value.specs.Parts.{value};
 ghost use Rattle.catalogue.specs.Layout.{table};
 ghost use Rattle.bundle.specs.Held.{Is, Holds};
-ghost use Rattle.marking.specs.Told.{refusedWith, leafTold, typeOf, textOf};
+ghost use Rattle.marking.specs.declared.Marked.the-variants as marked;
+ghost use Rattle.marking.specs.Told.{run, refusedWith, leafTold, typeOf, textOf};
 ghost use Rattle.marking.specs.Marks.{Markable, Marks};
 
 pub fn refuse(class: Class) -> Marked
     ensures { λ r. ⌜ r ≡ refusedWith class ⌝ }
 {
     Marked::Refused(Refusal { class })
+}
+
+// A leaf is one node.
+fn one_leaf(mark: Mark, content: usize) -> Marked
+    ensures { λ r. ⌜ r ≡ marked.Is (run 1 content mark) ⌝ }
+{
+    Marked::Is(Measured {
+        mark,
+        nodes: 1,
+        content,
+    })
 }
 
 // The bytes that a literal of this type holds, where n are those of its text.
@@ -56,11 +68,7 @@ fn literal(ty: ExpressionType, nullable: bool, n: usize) -> Marked
     requires { ⌜ n ≤ 65536 ⌝ }
     ensures { λ r. ⌜ ((v : Value) → typeOf v ≡ ty → textOf v ≡ n → r ≡ leafTold (literalLeaf v ty nullable)) ⌝ }
 {
-    Marked::Is(Measured {
-        mark: Mark { ty, nullable },
-        nodes: 1,
-        content: literal_len(ty, n),
-    })
+    one_leaf(Mark { ty, nullable }, literal_len(ty, n))
 }
 
 // A number, under a minus or not: its text must be one of 64 signed bits.
@@ -82,11 +90,7 @@ fn column(t: &[u8], quoted: bool, name: &[u8]) -> Marked
     match find_column(t, quoted, name) {
         Named::Is(c) => {
             let ty = c.ty;
-            Marked::Is(Measured {
-                mark: column_mark(ty, c.nullable),
-                nodes: 1,
-                content: column_ref_len(c.end - c.start),
-            })
+            one_leaf(column_mark(ty, c.nullable), column_ref_len(c.end - c.start))
         }
         Named::Nothing => refuse(Class::SchemaMismatch),
     }

@@ -121,6 +121,7 @@ fn run_len(m: Measured) -> usize
     count_len() + node_len() * m.nodes + m.content
 }
 
+// The mark of an expression, whose root is its last node, and the length of what it is bound to.
 pub fn expression_size(t: &[u8], e: &[u8]) -> Sized
     requires { ⌜ Is table (now t) × (Is expression (now e) × NamesWithin (now e)) ⌝ }
     ensures { λ r. ⌜ Sizes (now (t .entry)) (now (e .entry)) r ⌝ }

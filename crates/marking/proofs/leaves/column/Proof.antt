@@ -21,7 +21,8 @@ sub-column-ref-len : tie.Need-sub-column-ref-len
 sub-column-ref-len c =
     let s = c .before .before .before .before .before .before .before .before in
     let a = s .args in
-    column-span (a .t .now) (named (a .quoted) (a .name .now)) _ (c .before .before .before .before .before .find-column .ensures) (s .pre .0) _ (c .before .before .before .c .given .1) .0
+    let l = column-span (a .t .now) (named (a .quoted) (a .name .now)) _ (c .before .before .before .before .before .find-column .ensures) (s .pre .0) _ (c .before .before .before .c .given .1) in
+    omega (arith, l .0)
 
 column-ref-len-requires : tie.Need-column-ref-len-requires
 column-ref-len-requires c κs =
@@ -29,6 +30,9 @@ column-ref-len-requires c κs =
     let a = s .args in
     let l = column-span (a .t .now) (named (a .quoted) (a .name .now)) _ (c .before .before .before .before .before .find-column .ensures) (s .pre .0) _ (c .before .before .before .c .given .1) in
     omega (arith, l .1, s .pre .1)
+
+one-leaf-requires : tie.Need-one-leaf-requires
+one-leaf-requires c κs = search needs
 
 enum-told : tie.Need-enum-told
 enum-told c = search needs
@@ -38,9 +42,10 @@ refuse-requires c κs = search needs
 
 returns : tie.Need-returns
 returns c v h =
-    let a = c .before .before .before .before .before .before .before .before .before .args in
-    column-is (a .t .now) (named (a .quoted) (a .name .now)) _ (c .before .before .before .before .before .before .find-column .ensures) v h _ (c .before .before .before .before .c .given .1) _
-    (c .before .before .column-mark .ensures) _ (c .column-ref-len .ensures .1)
+    let a = c .before .before .before .before .before .before .before .before .before .before .args in
+    c .one-leaf .ensures
+    ∙ column-is (a .t .now) (named (a .quoted) (a .name .now)) _ (c .before .before .before .before .before .before .before .find-column .ensures) v h _ (c .before .before .before .before .before .c .given .1) _
+    (c .before .before .before .column-mark .ensures) _ (c .before .column-ref-len .ensures .1)
 
 returns-2 : tie.Need-returns-2
 returns-2 c v h =
@@ -56,6 +61,7 @@ column-spec =
     column-mark-requires
     sub-column-ref-len
     column-ref-len-requires
+    one-leaf-requires
     enum-told
     refuse-requires
     returns

@@ -1,6 +1,6 @@
 -- `leaves::literal` meets its contract.
 -- Assumes nothing.
-use mathlib.Core.Path.{ap}
+use mathlib.Core.Path.{_∙_, ap}
 use Prim.Native.Nat.{ℕ}
 use Rattle.rules.specs.Lookup as lookup
 use Rattle.marking.specs.declared.Marked.the-variants as marked
@@ -12,8 +12,13 @@ use Rattle.marking.proofs.leaves.literal.Tie as tie
 literal-len-requires : tie.Need-literal-len-requires
 literal-len-requires c κs = search needs
 
+one-leaf-requires : tie.Need-one-leaf-requires
+one-leaf-requires c κs = search needs
+
 returns : tie.Need-returns
-returns c v h q = let a = c .before .args in ap (λ (k : ℕ). marked.Is (run 1 k (lookup.mark (a .ty) (a .nullable)))) (c .literal-len .ensures v h q)
+returns c v h q =
+    let a = c .before .before .args in
+    c .one-leaf .ensures ∙ ap (λ (k : ℕ). marked.Is (run 1 k (lookup.mark (a .ty) (a .nullable)))) (c .before .literal-len .ensures v h q)
 
 pub literal-spec : {M : Type 1} → statement M
-literal-spec = tie.close (tie.spec literal-len-requires returns)
+literal-spec = tie.close (tie.spec literal-len-requires one-leaf-requires returns)

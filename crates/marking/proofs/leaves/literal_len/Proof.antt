@@ -1,6 +1,6 @@
 -- `leaves::literal_len` meets its contract: in each arm the type is known.
 -- Assumes nothing.
-use Rattle.marking.proofs.Looked.{LiteralLength, literal-length}
+use Rattle.marking.proofs.Looked.{literal-length}
 use borrow.Author.Needs.{needs}
 use Rattle.marking.proofs.leaves.literal_len.Statement.{statement}
 use Rattle.marking.proofs.leaves.literal_len.Tie as tie
