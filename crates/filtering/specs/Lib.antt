@@ -1,2 +1,3 @@
-pub mod Expressions
+pub mod Fits
+pub mod Short
 pub mod Filters
