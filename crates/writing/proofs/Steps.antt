@@ -1,26 +1,22 @@
 -- One step of writing: what a node has to ask of its operands, and what they and its own row make of it.
 -- Assumes nothing.
 use mathlib.Core.Path.{_≡_, sym, ap, subst, _∙_}
-use mathlib.Core.Bool.{true, false}
+use mathlib.Core.Bool.{false}
 use mathlib.Core.List.{List}
 use Prim.Native.Nat.{ℕ, _+_, _-_, _*_, _≤_, _<_}
 use native.Mathlib.Decide.{decLt}
 use native.Mathlib.Omega.{arith}
-use lib.Dec.{eqb}
 use lib.ListN.{length}
-use lib.Seq.{length-sets}
-use Rattle.wire.specs.Le.{Bytes}
-use Rattle.wire.specs.Sets.{Wrote}
 use Rattle.tree.specs.Tree.{size}
 use Rattle.rules.specs.declared.ExpressionType.the-variants as type
 use Rattle.rules.specs.declared.Mark.{Mark}
-use Rattle.rules.specs.Answers.{given, fine}
+use Rattle.rules.specs.Answers.{fine}
 use Rattle.rules.specs.Bound.{Marked, BoundLeaf, BoundExpr, markOf}
 use Rattle.rules.specs.Lookup as lookup
-use Rattle.rules.specs.Marking.{unaryRule, binaryRule, bindExpression}
-use Rattle.expression.specs.Place.{nodeAt, unOf, binOf, HasNode}
+use Rattle.rules.specs.Marking.{unaryRule, binaryRule}
+use Rattle.expression.specs.Place.{unOf, binOf}
 use Rattle.bound.specs.Runs.{contentLength}
-use Rattle.bound.specs.Beside.{beside-long}
+use Rattle.bound.specs.Beside.{wrote-long, beside-long}
 use Rattle.writing.specs.declared.Bound.{Bound}
 use Rattle.writing.specs.declared.Leaf.{Leaf}
 use Rattle.writing.specs.Binds.{Binds, binds-once, LeafBinds, UnBinds, BinBinds}
@@ -29,9 +25,6 @@ use Rattle.writing.specs.Rows.{Rooted, Laid, laid-leaf, laid-un, laid-bi
 use Rattle.writing.specs.Writes.{Writable, Writes, leaf-row, leaf-content, un-rows, un-contents, bin-rows, bin-contents}
 use Rattle.writing.specs.Fine.{IsFine}
 use Rattle.writing.proofs.Contents.{fine-same}
-
-pub wrote-long : {o o′ x : List ℕ} {i j : ℕ} → Wrote o i x j o′ → length o′ ≡ length o
-wrote-long {o} {x = x} {i = i} w = ap length (w .is) ∙ length-sets o i x
 
 module _ {b : BoundExpr} {from : ℕ} {o : List ℕ} {row content : ℕ} {r : Bound} {o′ : List ℕ} (x : Laid b from o row content r o′) where
   laid-mark : r .mark ≡ markOf b

@@ -14,12 +14,12 @@ use Rattle.expression.specs.Place.{nodeCount, IsImage}
 use Rattle.expression.specs.Laws.{is-image, some-node}
 use Rattle.bound.specs.Expression.{boundExpression}
 use Rattle.bound.specs.Runs.{rowsFrom, contentBytes, contentLength, run-length}
-use Rattle.bound.specs.Beside.{Beside, wrote-run-beside}
+use Rattle.bound.specs.Beside.{wrote-long, Beside, wrote-run-beside}
 use Rattle.writing.specs.declared.Bound.{Bound}
 use Rattle.writing.specs.Binds.{Bind, bind-root}
 use Rattle.writing.specs.Rows.{Laid}
 use Rattle.writing.specs.Writes.{Ready, Writable, Writes}
-use Rattle.writing.proofs.Steps.{wrote-long, laid-content}
+use Rattle.writing.proofs.Steps.{laid-content}
 
 few-nodes : (e : List ℕ) → Bytes e → nodeCount e < 65536
 unfolding nodeCount

@@ -1,11 +1,11 @@
 -- What the writers of a bound expression ask for, and what they do; and how a node's room is shared out to its operands.
 -- Assumes nothing.
-use mathlib.Core.Path.{_≡_, sym, ap, _∙_}
+use mathlib.Core.Path.{_≡_}
 use mathlib.Core.List.{List}
 use Prim.Native.Nat.{ℕ, _+_, _-_, _*_, _≤_}
 use native.Mathlib.Omega.{arith}
 use lib.ListN.{length}
-use Rattle.tree.specs.Tree.{leaf, un, bin, size}
+use Rattle.tree.specs.Tree.{size}
 use Rattle.rules.specs.Bound.{Marked, BoundLeaf, BoundExpr}
 use Rattle.expression.specs.Place.{HasNode}
 use Rattle.marking.specs.Marks.{NamesWithin}
