@@ -21,7 +21,7 @@ use Rattle.bound.specs.Expression.{boundExpression}
 use Rattle.bound.specs.Runs.{contentLength, leafBytes, run-length}
 use Rattle.bound.specs.Beside.{beside-long}
 use Rattle.writing.specs.declared.Bound.{Bound}
-use Rattle.writing.specs.Binds.{Bind, Binds, LeafBinds, UnBinds, BinBinds}
+use Rattle.writing.specs.Binds.{BindsWhole, Binds, LeafBinds, UnBinds, BinBinds}
 use Rattle.writing.specs.Leaves.{LeafRoom}
 use Rattle.writing.specs.Rows.{Laid}
 
@@ -31,7 +31,7 @@ use Rattle.writing.specs.Rows.{Laid}
 pub record Ready (t e o : List ℕ) (at : ℕ) : Type 0 where
   pub names : NamesWithin e
   pub whole : BoundExpr
-  pub bind : Bind t e whole
+  pub bind : BindsWhole t e whole
   pub room : at + length (boundExpression .write whole) ≤ length o
 
 -- so it is where it is given for what t and e hold, with so much room
