@@ -103,7 +103,8 @@ beside-then b c h = beside-second (beside-first b (record { end = c .end; is = r
 pub beside-joined : {o o₁ x y : List ℕ} {i j l : ℕ} → Beside o i x j j y l o₁ → Wrote o i (x ++ y) l o₁
 beside-joined {x = x} {y = y} b = then {x = x} {y = y} (record { end = b .end; is = refl }) (record { end = b .far; is = b .is })
 
--- ---- a list's lengths and its parts
+-- ---- a list's lengths and its parts: a loop begins behind the count with `listed-none`, has in each turn room for a part and for its length by
+-- `listed-space`, writes the part and then its length (`listed-more`), and ends with `listed-all`
 
 -- the first n parts are written, their lengths from i to k and their bytes, behind the place of all lengths, up to l
 pub record Listed {A : Type 0} (f : Format A) (vs : List A) (n : ℕ) (o : List ℕ) (i k l : ℕ) (o′ : List ℕ) : Type 0 where

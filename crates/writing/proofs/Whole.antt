@@ -16,7 +16,7 @@ use Rattle.bound.specs.Expression.{boundExpression}
 use Rattle.bound.specs.Runs.{rowsFrom, contentBytes, contentLength, run-length}
 use Rattle.bound.specs.Beside.{wrote-long, Beside, wrote-run-beside}
 use Rattle.writing.specs.declared.Bound.{Bound}
-use Rattle.writing.specs.Binds.{Bind, bind-root}
+use Rattle.writing.specs.Binds.{BindsWhole, bind-root}
 use Rattle.writing.specs.Rows.{Laid}
 use Rattle.writing.specs.Writes.{Ready, Writable, Writes}
 use Rattle.writing.proofs.Steps.{laid-content}
@@ -30,7 +30,7 @@ image w = is-image (w .bind .reads)
 
 module _ {t e o : List ℕ} {at : ℕ} (w : Ready t e o at) (y : Bytes e) where
   -- n is told to be the number of the bound expression's nodes
-  module _ {n : ℕ} (few : n ≤ nodeCount e) (told : (u : List ℕ) (b : BoundExpr) → Bind u e b → n ≡ size b) where
+  module _ {n : ℕ} (few : n ≤ nodeCount e) (told : (u : List ℕ) (b : BoundExpr) → BindsWhole u e b → n ≡ size b) where
     sum : at + (4 + 11 * n + contentLength (w .whole)) ≤ length o
     sum = omega (arith, w .room, run-length (w .whole), told t (w .whole) (w .bind))
 
@@ -53,13 +53,13 @@ module _ {t e o : List ℕ} {at : ℕ} (w : Ready t e o at) (y : Bytes e) where
       })
 
       module _ {m : ℕ} {r : Bound} {o₂ : List ℕ} (z : m ≡ nodeCount e) (q : Writes t e (m - 1) 0 o₁ rows (rows + 11 * n) r o₂) where
-        root : (b : BoundExpr) → Bind t e b → Laid b 0 o₁ rows (rows + 11 * n) r o₂
+        root : (b : BoundExpr) → BindsWhole t e b → Laid b 0 o₁ rows (rows + 11 * n) r o₂
         root b h = (rw z at q) b (bind-root y h)
 
         pub result-room : rows + 11 * n + r .content ≤ length o
         result-room = omega (arith, rows-room, laid-content (root (w .whole) (w .bind)))
 
-        pub wrote-whole : (b : BoundExpr) → Bind t e b → Wrote o at (boundExpression .write b) (rows + 11 * n + r .content) o₂
+        pub wrote-whole : (b : BoundExpr) → BindsWhole t e b → Wrote o at (boundExpression .write b) (rows + 11 * n + r .content) o₂
         wrote-whole b h =
             let x = root b h in
             let k : n ≡ size b = told t b h in

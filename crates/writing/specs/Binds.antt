@@ -45,14 +45,14 @@ use Rattle.bound.specs.Expression.{unaryNo}
 use Rattle.writing.specs.Signs.{signs, signed, unsigned}
 
 -- over the table that t holds, the expression that e holds is bound to b
-pub record Bind (t e : List ℕ) (b : BoundExpr) : Type 0 where
+pub record BindsWhole (t e : List ℕ) (b : BoundExpr) : Type 0 where
   pub schema : TableSchema
   pub holds : Holds table t schema
   pub tree : Expr
   pub reads : Holds expression e tree
   pub bound : bindExpression schema tree ≡ given b
 
--- and so the tree at node i of e
+-- and the tree at node i of e to b
 pub record Binds (t e : List ℕ) (i : ℕ) (b : BoundExpr) : Type 0 where
   pub schema : TableSchema
   pub holds : Holds table t schema
@@ -61,7 +61,7 @@ pub record Binds (t e : List ℕ) (i : ℕ) (b : BoundExpr) : Type 0 where
   pub bound : bindExpression schema tree ≡ given b
 
 -- the root is the last node
-pub bind-root : {t e : List ℕ} {b : BoundExpr} → Bytes e → Bind t e b → Binds t e (nodeCount e - 1) b
+pub bind-root : {t e : List ℕ} {b : BoundExpr} → Bytes e → BindsWhole t e b → Binds t e (nodeCount e - 1) b
 bind-root y h = record { schema = h .schema; holds = h .holds; tree = h .tree; root = placed y (h .reads) .0; bound = h .bound }
 
 given-same : {A : Type 0} {a b : A} → given a ≡ given b → a ≡ b

@@ -21,7 +21,7 @@ use Rattle.expression.specs.Heads.{leaf-range, un-range, bin-range}
 use Rattle.expression.specs.Trees.{kindOf, size-pos, root-span}
 use Rattle.expression.specs.Laws.{placed}
 use Rattle.writing.specs.Signs.{signs, number-below}
-use Rattle.writing.specs.Binds.{Bind, Binds, bind-root, leaf-binds, number-binds, parens-binds, null-binds, operator-binds, binary-binds}
+use Rattle.writing.specs.Binds.{BindsWhole, Binds, bind-root, leaf-binds, number-binds, parens-binds, null-binds, operator-binds, binary-binds}
 
 -- how many nodes node i is bound to, without its operands
 unfoldable pub weight : (ℕ → Node) → ℕ → ℕ
@@ -147,7 +147,7 @@ module _ (t e : List ℕ) where
       ∙ omega (arith, total-both v a (size y) (size z), l, r, w, bin-size (u .is))
 
 -- all nodes of an expression
-pub all-counted : {t e : List ℕ} {b : BoundExpr} → Bytes e → Bind t e b → total (nodeAt e) 0 (nodeCount e) ≡ size b
+pub all-counted : {t e : List ℕ} {b : BoundExpr} → Bytes e → BindsWhole t e b → total (nodeAt e) 0 (nodeCount e) ≡ size b
 all-counted {t} {e} {b} y h =
     let p = placed y (h .reads) in
     rw (← p .1) (counted t e (nodeCount e - 1) (h .tree) (p .0) b (bind-root y h) 0 (omega (arith, p .1, size-pos (h .tree))))
@@ -182,7 +182,7 @@ module _ {e : List ℕ} {n : ℕ} where
         is = omega (arith, k .is, total-one (nodeAt e) 0 i, h, ap (weight (nodeAt e)) z);
       }
 
-  pub counting-all : {sum i : ℕ} → Bytes e → Counting e n sum i → n ≤ i → (t : List ℕ) (b : BoundExpr) → Bind t e b → sum ≡ size b
+  pub counting-all : {sum i : ℕ} → Bytes e → Counting e n sum i → n ≤ i → (t : List ℕ) (b : BoundExpr) → BindsWhole t e b → sum ≡ size b
   counting-all {i = i} y k l t b h =
       let z : i ≡ nodeCount e = omega (arith, k .here, k .count) in
       k .is ∙ ap (total (nodeAt e) 0) z ∙ all-counted y h

@@ -6,14 +6,22 @@ use Prim.Native.Nat.{ℕ, _+_, _-_, _*_, _≤_}
 use native.Mathlib.Omega.{arith}
 use lib.ListN.{length}
 use Rattle.tree.specs.Tree.{size}
+use Rattle.rules.specs.Answers.{given}
 use Rattle.rules.specs.Bound.{Marked, BoundLeaf, BoundExpr}
-use Rattle.expression.specs.Place.{HasNode}
+use Rattle.rules.specs.Marking.{bindExpression}
+use Rattle.rules.specs.Statements.{Expr}
+use Rattle.rules.specs.Tables.{TableSchema}
+use Rattle.catalogue.specs.Layout.{table}
+use Rattle.bundle.specs.Held.{Holds, Is, held}
+use Rattle.expression.specs.Expression.{expression}
+use Rattle.expression.specs.Place.{IsImage, HasNode}
+use Rattle.expression.specs.Laws.{image-tree}
 use Rattle.marking.specs.Marks.{NamesWithin}
 use Rattle.bound.specs.Expression.{boundExpression}
-use Rattle.bound.specs.Runs.{contentLength, leafBytes}
+use Rattle.bound.specs.Runs.{contentLength, leafBytes, run-length}
 use Rattle.bound.specs.Beside.{beside-long}
 use Rattle.writing.specs.declared.Bound.{Bound}
-use Rattle.writing.specs.Binds.{Bind, Binds, LeafBinds, UnBinds, BinBinds}
+use Rattle.writing.specs.Binds.{BindsWhole, Binds, LeafBinds, UnBinds, BinBinds}
 use Rattle.writing.specs.Leaves.{LeafRoom}
 use Rattle.writing.specs.Rows.{Laid}
 
@@ -23,8 +31,23 @@ use Rattle.writing.specs.Rows.{Laid}
 pub record Ready (t e o : List ℕ) (at : ℕ) : Type 0 where
   pub names : NamesWithin e
   pub whole : BoundExpr
-  pub bind : Bind t e whole
+  pub bind : BindsWhole t e whole
   pub room : at + length (boundExpression .write whole) ≤ length o
+
+-- so it is where it is given for what t and e hold, with so much room
+pub ready : {t e o : List ℕ} {at : ℕ} → Is table t → IsImage e → NamesWithin e
+    → ((v : TableSchema) (x : Expr) → Holds table t v → Holds expression e x → (b : BoundExpr) × (bindExpression v x ≡ given b) × (at + (4 + 11 * size b + contentLength b) ≤ length o))
+    → Ready t e o at
+ready {at = at} i m n f =
+    held i (λ v h.
+    let x = image-tree m in
+    let b = f v (x .0) h (x .1) in
+    record {
+      names = n;
+      whole = b .0;
+      bind = record { schema = v; holds = h; tree = x .0; reads = x .1; bound = b .1 };
+      room = omega (arith, b .2, run-length (b .0));
+    })
 
 -- ---- a node
 

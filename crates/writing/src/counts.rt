@@ -8,7 +8,7 @@ ghost use Prim.Native.Nat.{ℕ, _≤_};
 ghost use Rattle.rules.specs.Bound.{BoundExpr};
 ghost use Rattle.tree.specs.Tree.{size};
 ghost use Rattle.expression.specs.Place.{nodeCount, nodeAt, IsImage, HasNode};
-ghost use Rattle.writing.specs.Binds.{Bind};
+ghost use Rattle.writing.specs.Binds.{BindsWhole};
 ghost use Rattle.writing.specs.Counts.{weight};
 
 // How many nodes node i is bound to, without its operands: parentheses to none, a sign directly over a number to none but the number's.
@@ -32,7 +32,7 @@ fn own_nodes(e: &[u8], i: usize) -> usize
 pub fn bound_nodes(e: &[u8]) -> usize
     requires { ⌜ IsImage (now e) ⌝ }
     ensures few { λ r. ⌜ r ≤ nodeCount (now (e .entry)) ⌝ }
-    ensures told { λ r. ⌜ ((t : List ℕ) (b : BoundExpr) → Bind t (now (e .entry)) b → r ≡ size b) ⌝ }
+    ensures told { λ r. ⌜ ((t : List ℕ) (b : BoundExpr) → BindsWhole t (now (e .entry)) b → r ≡ size b) ⌝ }
 {
     let n = nodes(e);
     let mut sum = 0;

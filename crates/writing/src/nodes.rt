@@ -32,6 +32,7 @@ pub fn signs_number(e: &[u8], j: usize, k: u8) -> bool
     kind(e, j) == 2
 }
 
+// The mark that a rule gives.
 fn granted(v: Ruling) -> Mark
     requires { ⌜ Granted v ⌝ }
     ensures { λ r. ⌜ v ≡ ruling.Fine r ⌝ }
