@@ -161,11 +161,11 @@ fn define_columns(s: &[u8], place: Repeat) -> Keyed
     requires { ⌜ Is (listOf 2 columnDefinition) (now s) × FindsRepeat of.Columns (now s) place ⌝ }
     ensures { λ r. ⌜ ((cs : List ColumnDefinition) → Holds (listOf 2 columnDefinition) (now (s .entry)) cs → ReadsColumns cs r) ⌝ }
 {
-    let n = bundle::parts(s, 2);
+    let columns = bundle::parts(s, 2);
     let mut key = Key::Nowhere;
     let mut at = bundle::first(s, 2);
     let mut i = 0;
-    while i < n {
+    while i < columns {
         let end = bundle::next(s, 2, i, at);
         match define_column(&s[at..end], i, key, is_at(place, i)) {
             Keyed::Is(k) => {

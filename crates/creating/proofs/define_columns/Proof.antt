@@ -16,10 +16,10 @@ use Rattle.creating.proofs.define_columns.Statement.{statement}
 use Rattle.creating.proofs.define_columns.Tie as tie
 
 abbrev Inv-loop : tie.InvT-loop
-Inv-loop s place n key₀ at₀ i₀ key at i = Along s n i at × ((cs : List ColumnDefinition) → Holds (listOf 2 columnDefinition) s cs → ColumnsTo cs key i)
+Inv-loop s place columns key₀ at₀ i₀ key at i = Along s columns i at × ((cs : List ColumnDefinition) → Holds (listOf 2 columnDefinition) s cs → ColumnsTo cs key i)
 
 abbrev μ-loop : tie.MeasureT-loop
-μ-loop s place n key₀ at₀ i₀ key at i = n - i
+μ-loop s place columns key₀ at₀ i₀ key at i = columns - i
 
 parts-requires : tie.Need-parts-requires Inv-loop μ-loop
 parts-requires c κs = let r = list-bundle columnDefinition (c .before .pre .0) in search needs
