@@ -8,7 +8,7 @@ use Prim.Native.Nat.{ℕ, zero, suc, _-_, _≤_, _<_}
 use native.Mathlib.Omega.{arith}
 use lib.Dec.{eqb, lit<}
 use lib.IntN.{ℤ}
-use lib.ListN.{getD}
+use lib.ListN.{length, getD}
 use mir.Syntax.{w8}
 use mir.Val.{Fits}
 use Rattle.tree.specs.Tree.{leaf, un, bin}
@@ -17,6 +17,7 @@ use Rattle.bundle.specs.Held.{Is, Holds, held}
 use Rattle.rules.specs.declared.BoundUnaryOperator.the-variants.{Positive, Negative, Not}
 use Rattle.rules.specs.declared.Class.{Class}
 use Rattle.rules.specs.declared.Class.the-variants.{SchemaMismatch, UnsupportedSql}
+use Rattle.rules.specs.declared.Refusal.{Refusal}
 use Rattle.rules.specs.Lists.{Text}
 use Rattle.rules.specs.Answers.{Answer, given, refused, refuse}
 use Rattle.rules.specs.Bound.{Value}
@@ -28,26 +29,32 @@ use Rattle.rules.specs.Theorems.Answered.{never-given}
 use Rattle.numbers.specs.declared.Literal.the-variants as literal
 use Rattle.numbers.specs.Literal.{told}
 use Rattle.expression.specs.Expression.{expression}
-use Rattle.expression.specs.Place.{Node, nodeCount, nodeAt, leafKind, leafText, leafOf, unKind, unOf, top, Root, IsImage, HasNode}
+use Rattle.expression.specs.Place.{Node, nodeCount, nodeAt, leafKind, leafText, leafOf, unKind, unOf, behind, top, Root, IsImage, HasNode}
 use Rattle.expression.specs.Heads.{leaf-range, un-range, bin-range}
 use Rattle.expression.specs.Trees.{kindOf, textOf}
-use Rattle.expression.specs.Laws.{is-image, placed, some-node, leaf-at}
+use Rattle.expression.specs.Layout.{text-length}
+use Rattle.expression.specs.Laws.{is-image, placed, some-node, has-content, leaf-at}
 use Rattle.literals.specs.declared.Scalar.{Scalar}
 use Rattle.literals.specs.declared.Scalar.the-variants as scalar
 
-abbrev pub scalarOf : Answer Value → Scalar
-scalarOf (given (Value.int z)) = scalar.Int z
-scalarOf (given (Value.text s)) = scalar.Text
-scalarOf (given (Value.bool b)) = scalar.Bool b
-scalarOf (given Value.null) = scalar.Null
-scalarOf (refused r) = scalar.Refused r
+-- the value of a scalar, where the text of the node is s
+abbrev pub valueOf : Text → Scalar → Answer Value
+valueOf s (scalar.Int z) = given (Value.int z)
+valueOf s scalar.Text = given (Value.text s)
+valueOf s (scalar.Bool b) = given (Value.bool b)
+valueOf s scalar.Null = given Value.null
+valueOf s (scalar.Refused r) = refused r
 
 abbrev pub refusedWith : Class → Scalar
 refusedWith k = scalar.Refused (record { class = k })
 
+-- the text of the last node: where an expression is a string, the string
+abbrev pub textIn : List ℕ → Text
+textIn e = (nodeAt e (nodeCount e - 1)) .text
+
 -- r is what the tree at node i is taken as
-abbrev pub Tells : List ℕ → ℕ → Scalar → Type 0
-Tells e i r = (x : Expr) → Root (nodeAt e) i x → r ≡ scalarOf (insertLiteral x)
+pub record Tells (e : List ℕ) (i : ℕ) (r : Scalar) : Type 0 where
+  pub at : (x : Expr) → Root (nodeAt e) i x → insertLiteral x ≡ valueOf ((nodeAt e i) .text) r
 
 -- ---- leaves
 
@@ -65,9 +72,9 @@ leaf-other (suc (suc (suc (suc (suc (suc (suc zero))))))) s a b c d e = refl
 leaf-other (suc (suc (suc (suc (suc (suc (suc (suc n)))))))) s a b c d e = refl
 
 -- what is said of a leaf of kind k
-pub leaf-tells : (e : List ℕ) (i k : ℕ) {r : Scalar} → k ≡ (nodeAt e i) .kind → k < 9 → r ≡ scalarOf (insertLeaf (leafOf k ((nodeAt e i) .text))) → Tells e i r
+pub leaf-tells : (e : List ℕ) (i k : ℕ) {r : Scalar} → k ≡ (nodeAt e i) .kind → k < 9 → insertLeaf (leafOf k ((nodeAt e i) .text)) ≡ valueOf ((nodeAt e i) .text) r → Tells e i r
 unfolding insertLiteral
-leaf-tells e i k is hi h x g = h ∙ sym (ap (λ (y : Expr). scalarOf (insertLiteral y)) (leaf-at (nodeAt e) i k is x g hi))
+leaf-tells e i k is hi h = record { at = λ x g. ap insertLiteral (leaf-at (nodeAt e) i k is x g hi) ∙ h }
 
 -- ---- a sign directly over a number, by the kinds of the two nodes
 
@@ -113,61 +120,48 @@ module _ (v : ℕ → Node) (j : ℕ) where
   no-number-below (bin o a b) g h = refl
 
 module _ (e : List ℕ) (i k : ℕ) {r : Scalar} (is : k ≡ (nodeAt e i) .kind) where
-  pub sign-tells : 12 ≤ k → k < 14 → (nodeAt e (i - 1)) .kind ≡ 2 → r ≡ scalarOf (integer (integerLiteral (eqb k 13) ((nodeAt e (i - 1)) .text))) → Tells e i r
+  pub sign-tells : 12 ≤ k → k < 14 → (nodeAt e (i - 1)) .kind ≡ 2 → ((t : Text) → integer (integerLiteral (eqb k 13) ((nodeAt e (i - 1)) .text)) ≡ valueOf t r) → Tells e i r
   unfolding Root top insertLiteral signedNumber
-  sign-tells lo hi z h (leaf l) g = absurd (omega (arith, leaf-range l, ap kindOf g))
-  sign-tells lo hi z h (un o a) g =
-      let q : k ≡ unKind o = is ∙ ap kindOf (g .0) in
-      let p : sign o ≡ some (eqb k 13) = sign-at o (omega (arith, q)) (omega (arith, q)) ∙ ap (λ (n : ℕ). some (eqb n 13)) (sym q) in
-      h ∙ sym (ap₂ (λ (x : Option Bool) (y : Option Text). scalarOf (insertSigned (together x y))) p (number-below (nodeAt e) (i - 1) a (g .2) z))
-  sign-tells lo hi z h (bin o a b) g = absurd (omega (arith, bin-range o, ap kindOf (g .0)))
+  sign-tells lo hi z h = record { at = go }
+    where
+      go : (x : Expr) → Root (nodeAt e) i x → insertLiteral x ≡ valueOf ((nodeAt e i) .text) r
+      go (leaf l) g = absurd (omega (arith, leaf-range l, ap kindOf g))
+      go (un o a) g =
+          let q : k ≡ unKind o = is ∙ ap kindOf (g .0) in
+          let p : sign o ≡ some (eqb k 13) = sign-at o (omega (arith, q)) (omega (arith, q)) ∙ ap (λ (n : ℕ). some (eqb n 13)) (sym q) in
+          ap₂ (λ (x : Option Bool) (y : Option Text). insertSigned (together x y)) p (number-below (nodeAt e) (i - 1) a (g .2) z) ∙ h ((nodeAt e i) .text)
+      go (bin o a b) g = absurd (omega (arith, bin-range o, ap kindOf (g .0)))
 
   pub no-sign-tells : 9 ≤ k → k < 16 → (12 ≤ k → k < 14 → (nodeAt e (i - 1)) .kind ≡ 2 → ⊥) → r ≡ refusedWith UnsupportedSql → Tells e i r
   unfolding Root top insertLiteral signedNumber
-  no-sign-tells lo hi f h (leaf l) g = absurd (omega (arith, leaf-range l, ap kindOf g))
-  no-sign-tells lo hi f h (un o a) g =
-      let q : k ≡ unKind o = is ∙ ap kindOf (g .0) in
-      h ∙ sym (ap (λ (x : Option (Bool × Text)). scalarOf (insertSigned x))
-      (unsigned o (numberIn a) (λ l m. no-number-below (nodeAt e) (i - 1) a (g .2) (f (omega (arith, q)) (omega (arith, q))))))
-  no-sign-tells lo hi f h (bin o a b) g = absurd (omega (arith, bin-range o, ap kindOf (g .0)))
+  no-sign-tells lo hi f h = record { at = go }
+    where
+      go : (x : Expr) → Root (nodeAt e) i x → insertLiteral x ≡ valueOf ((nodeAt e i) .text) r
+      go (leaf l) g = absurd (omega (arith, leaf-range l, ap kindOf g))
+      go (un o a) g =
+          let q : k ≡ unKind o = is ∙ ap kindOf (g .0) in
+          ap insertSigned (unsigned o (numberIn a) (λ l m. no-number-below (nodeAt e) (i - 1) a (g .2) (f (omega (arith, q)) (omega (arith, q)))))
+          ∙ sym (ap (valueOf ((nodeAt e i) .text)) h)
+      go (bin o a b) g = absurd (omega (arith, bin-range o, ap kindOf (g .0)))
 
   pub two-tells : 16 ≤ k → r ≡ refusedWith UnsupportedSql → Tells e i r
   unfolding Root top insertLiteral
-  two-tells lo h (leaf l) g = absurd (omega (arith, leaf-range l, ap kindOf g))
-  two-tells lo h (un o a) g = absurd (omega (arith, un-range o, ap kindOf (g .0)))
-  two-tells lo h (bin o a b) g = h
+  two-tells lo h = record { at = go }
+    where
+      go : (x : Expr) → Root (nodeAt e) i x → insertLiteral x ≡ valueOf ((nodeAt e i) .text) r
+      go (leaf l) g = absurd (omega (arith, leaf-range l, ap kindOf g))
+      go (un o a) g = absurd (omega (arith, un-range o, ap kindOf (g .0)))
+      go (bin o a b) g = sym (ap (valueOf ((nodeAt e i) .text)) h)
 
 -- ---- what the last node says of the whole
 
-pub last-tells : {e : List ℕ} {r : Scalar} → Bytes e → Tells e (nodeCount e - 1) r → (x : Expr) → Holds expression e x → r ≡ scalarOf (insertLiteral x)
-last-tells b t x h = t x (placed b h .0)
+pub last-tells : {e : List ℕ} {r : Scalar} → Bytes e → Tells e (nodeCount e - 1) r → (x : Expr) → Holds expression e x → insertLiteral x ≡ valueOf (textIn e) r
+last-tells b t x h = t .at x (placed b h .0)
 
--- a value that is a text is the last node's
-pub text-last : {e : List ℕ} {x : Expr} {s : Text} → Bytes e → Holds expression e x → insertLiteral x ≡ given (Value.text s) → (nodeAt e (nodeCount e - 1)) .text ≡ s
-unfolding Root top insertLiteral insertLeaf leafText
-text-last {e} {x} {s} b h q = go x (placed b h .0) q
-  where
-    signed : (o : Option (Bool × Text)) → insertSigned o ≡ given (Value.text s) → ⊥
-    signed none q = never-given q
-    signed (some p) q = whole (integerLiteral (p .0) (p .1)) q
-      where
-        whole : (z : Option ℤ) → integer z ≡ given (Value.text s) → ⊥
-        whole none q = never-given q
-        whole (some z) q = let n : _≡_ {A = ℕ} 0 1 = cc in omega arith
-
-    of-leaf : (l : Leaf) → insertLeaf l ≡ given (Value.text s) → leafText l ≡ s
-    of-leaf (Leaf.name n) q = absurd (never-given q)
-    of-leaf (Leaf.number t) q = absurd (signed (some (false, t)) q)
-    of-leaf (Leaf.string t) q = cc
-    of-leaf (Leaf.boolean c) q = let n : _≡_ {A = ℕ} 0 1 = cc in absurd (omega arith)
-    of-leaf Leaf.null q = let n : _≡_ {A = ℕ} 0 1 = cc in absurd (omega arith)
-    of-leaf Leaf.otherLiteral q = absurd (never-given q)
-    of-leaf Leaf.otherExpression q = absurd (never-given q)
-
-    go : (x : Expr) → Root (nodeAt e) (nodeCount e - 1) x → insertLiteral x ≡ given (Value.text s) → (nodeAt e (nodeCount e - 1)) .text ≡ s
-    go (leaf l) g q = ap textOf g ∙ of-leaf l q
-    go (un o a) g q = absurd (signed (signedNumber o a) q)
-    go (bin o a c) g q = absurd (never-given q)
+-- no text is longer than its expression
+pub text-short : {e : List ℕ} {i : ℕ} → Bytes e → HasNode e i → length ((nodeAt e i) .text) ≤ length e
+unfolding behind
+text-short {e} {i} b h = let k = has-content b h in omega (arith, text-length e i k, k .inside)
 
 -- what the code may rely on
 pub image : {e : List ℕ} → Is expression e → IsImage e
@@ -177,11 +171,11 @@ pub last-node : {e : List ℕ} → Bytes e → Is expression e → HasNode e (no
 last-node b i = record { image = image i; within = omega (arith, some-node b (image i)) }
 
 -- a number as the code reads it
-pub integer-is : (o : Option ℤ) {z : ℤ} → told o ≡ literal.Value z → scalar.Int z ≡ scalarOf (integer o)
+pub integer-is : (o : Option ℤ) {z : ℤ} → told o ≡ literal.Value z → integer o ≡ given (Value.int z)
 integer-is (some y) h = cc
 integer-is none h = absurd (let n : _≡_ {A = ℕ} 0 1 = cc in omega arith)
 
-pub integer-bad : (o : Option ℤ) → told o ≡ literal.Bad → refusedWith SchemaMismatch ≡ scalarOf (integer o)
+pub integer-bad : (o : Option ℤ) → told o ≡ literal.Bad → integer o ≡ refuse SchemaMismatch
 integer-bad (some y) h = absurd (let n : _≡_ {A = ℕ} 0 1 = cc in omega arith)
 integer-bad none h = refl
 

@@ -8,16 +8,15 @@ use rules::Class;
 use rules::Refusal;
 ghost use mathlib.Core.Path.{_≡_};
 ghost use Prim.Native.Nat.{_≤_, _<_};
+ghost use lib.ListN.{length};
 ghost use Rattle.bundle.specs.Held.{Is, Holds};
 ghost use Rattle.expression.specs.Expression.{expression};
 ghost use Rattle.expression.specs.Place.{nodeAt, HasNode};
 ghost use Rattle.rules.specs.Analyze as analyze;
-ghost use Rattle.rules.specs.Answers.{given};
-ghost use Rattle.rules.specs.Bound.{Value.text};
 ghost use Rattle.rules.specs.Lists.{Text};
 ghost use Rattle.rules.specs.Numbers.{integerLiteral};
 ghost use Rattle.rules.specs.Statements.{Expr};
-ghost use Rattle.literals.specs.Scalars.{scalarOf, refusedWith, Tells};
+ghost use Rattle.literals.specs.Scalars.{valueOf, refusedWith, textIn, Tells};
 
 // A text lies in the expression's image: `text_of` lends it.
 pub enum Scalar {
@@ -36,7 +35,7 @@ fn refuse(class: Class) -> Scalar
 
 // A number, under a minus or not: its text must be one of 64 signed bits.
 fn integer(s: &[u8], negative: bool) -> Scalar
-    ensures { λ r. ⌜ r ≡ scalarOf (analyze.integer (integerLiteral negative (now (s .entry)))) ⌝ }
+    ensures { λ r. ⌜ ((t : Text) → analyze.integer (integerLiteral negative (now (s .entry))) ≡ valueOf t r) ⌝ }
 {
     match integer_literal(s, negative) {
         Literal::Value(z) => Scalar::Int(z),
@@ -79,7 +78,7 @@ fn signed(e: &[u8], i: usize, k: u8) -> Scalar
 
 pub fn insert_literal(e: &[u8]) -> Scalar
     requires { ⌜ Is expression (now e) ⌝ }
-    ensures { λ r. ⌜ ((x : Expr) → Holds expression (now (e .entry)) x → r ≡ scalarOf (analyze.insertLiteral x)) ⌝ }
+    ensures { λ r. ⌜ ((x : Expr) → Holds expression (now (e .entry)) x → analyze.insertLiteral x ≡ valueOf (textIn (now (e .entry))) r) ⌝ }
 {
     let last = nodes(e) - 1;
     let k = kind(e, last);
@@ -95,7 +94,7 @@ pub fn insert_literal(e: &[u8]) -> Scalar
 // The text of a value that is a text.
 pub fn text_of(e: &[u8]) -> &[u8]
     requires { ⌜ Is expression (now e) ⌝ }
-    ensures { λ r. ⌜ ((x : Expr) (s : Text) → Holds expression (now (e .entry)) x → analyze.insertLiteral x ≡ given (text s) → now r ≡ s) ⌝ }
+    ensures { λ r. ⌜ (now r ≡ textIn (now (e .entry))) × (length (now r) ≤ length (now (e .entry))) ⌝ }
 {
     text(e, nodes(e) - 1)
 }
