@@ -90,9 +90,9 @@ module _ {s c : List ℕ} {u : Update} {t : TableSchema} {w : Expr} (h : TakenBy
   binds room =
       rw (h .isStatement, h .isCatalogue)
       (λ fits.
-        let b = demand (h .statement) (h .catalogue) u t w (h .taken) .0 boundSize room fits in
-        let a = wrote-answers bound.encode (bindOutcome boundSize room (some (h .statement)) (some (h .catalogue))) in
-        (λ x. b .0 (a .0 x), λ x. a .1 (b .1 x)))
+      let b = demand (h .statement) (h .catalogue) u t w (h .taken) .0 boundSize room fits in
+      let a = wrote-answers bound.encode (bindOutcome boundSize room (some (h .statement)) (some (h .catalogue))) in
+      (λ x. b .0 (a .0 x), λ x. a .1 (b .1 x)))
 
   ran : (r : List ℕ) (old : Row) (room : ℕ) → row.decode r ≡ some old
       → runBytes s c r room ≡ wrote row.encode (runOutcome rowSize room (some (h .statement)) (some (h .catalogue)) (some old))
