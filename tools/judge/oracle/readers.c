@@ -64,7 +64,9 @@ int LLVMFuzzerTestOneInput(const uint8_t *data, size_t length)
     if (length > MOST)
         return 0;
     const uint8_t *bytes = at_the_edge(data, length);
-    hold("statement", oracle_read_statement(bytes, length) == 5, !sirklemet_is_statement(bytes, length));
+    unsigned statement = oracle_read_statement(bytes, length);
+    hold("statement", statement, sirklemet_read_statement(bytes, length));
+    hold("is a statement", statement != 5, sirklemet_is_statement(bytes, length));
     unsigned catalogue = oracle_read_catalogue(bytes, length);
     hold("catalogue", catalogue, sirklemet_read_catalogue(bytes, length));
     hold("is a catalogue", catalogue != 6, sirklemet_is_catalogue(bytes, length));
