@@ -19,6 +19,9 @@ bool sirklemet_is_statement(const uint8_t *bytes, size_t length);
 bool sirklemet_is_catalogue(const uint8_t *bytes, size_t length);
 bool sirklemet_is_row(const uint8_t *bytes, size_t length);
 
+/* 0: a statement within the limits. 5: no statement. 7: one past a limit. 8: one with an unquoted name beyond ASCII. */
+uint8_t sirklemet_read_statement(const uint8_t *bytes, size_t length);
+
 /* 0: a catalogue within the limits. 6: no catalogue. 7: one past a limit. */
 uint8_t sirklemet_read_catalogue(const uint8_t *bytes, size_t length);
 

@@ -4,13 +4,30 @@ ghost use Rattle.bundle.specs.Bundle.{isThere};
 ghost use Rattle.statement.specs.Layout.{statement};
 ghost use Rattle.catalogue.specs.Layout.{catalogue};
 ghost use Rattle.row.specs.Layout.{row};
-ghost use Rattle.faces.specs.Told.{toldOfCatalogue, toldObeys};
+ghost use Rattle.faces.specs.Told.{toldOfStatement, toldOfCatalogue, toldObeys};
 
 #[no_mangle]
 pub extern "C" fn sirklemet_is_statement(bytes: &[u8]) -> bool
     ensures { λ r. ⌜ r ≡ isThere (statement .read (now (bytes .entry))) ⌝ }
 {
     reader::is_statement(bytes)
+}
+
+// 5: no statement. 7: one past a limit. 8: one with an unquoted name beyond ASCII. 0: one that the rules judge.
+#[no_mangle]
+pub extern "C" fn sirklemet_read_statement(bytes: &[u8]) -> u8
+    ensures { λ r. ⌜ r ≡ toldOfStatement (now (bytes .entry)) ⌝ }
+{
+    if !reader::is_statement(bytes) {
+        return 5;
+    }
+    if !limits::statement_within(bytes) {
+        return 7;
+    }
+    if ascii::names_beyond_ascii(bytes) {
+        return 8;
+    }
+    0
 }
 
 #[no_mangle]

@@ -5,6 +5,7 @@ mod library {
     // As crates/faces/sirklemet.h declares them.
     unsafe extern "C" {
         pub fn sirklemet_is_statement(bytes: *const u8, length: usize) -> bool;
+        pub fn sirklemet_read_statement(bytes: *const u8, length: usize) -> u8;
         pub fn sirklemet_is_catalogue(bytes: *const u8, length: usize) -> bool;
         pub fn sirklemet_read_catalogue(bytes: *const u8, length: usize) -> u8;
         pub fn sirklemet_is_row(bytes: *const u8, length: usize) -> bool;
@@ -22,6 +23,12 @@ mod library {
 pub fn is_statement(bytes: &[u8]) -> bool {
     // SAFETY: a slice's pointer is not null, and its bytes can be read.
     unsafe { library::sirklemet_is_statement(bytes.as_ptr(), bytes.len()) }
+}
+
+/// 0: a statement within the limits. 5: no statement. 7: one past a limit. 8: one with an unquoted name beyond ASCII.
+pub fn read_statement(bytes: &[u8]) -> u8 {
+    // SAFETY: as above.
+    unsafe { library::sirklemet_read_statement(bytes.as_ptr(), bytes.len()) }
 }
 
 /// Whether bytes are the image of a catalogue, whatever its size.

@@ -22,6 +22,12 @@ pub const IS_STATEMENT: Measured = Measured {
         black_box(sirklemet::is_statement(bytes));
     },
 };
+pub const READ_STATEMENT: Measured = Measured {
+    symbol: "sirklemet_read_statement",
+    call: |bytes| {
+        black_box(sirklemet::read_statement(bytes));
+    },
+};
 pub const READ_CATALOGUE: Measured = Measured {
     symbol: "sirklemet_read_catalogue",
     call: |bytes| {
@@ -40,7 +46,7 @@ pub const PASS: Measured = Measured {
         black_box(plain_pass(bytes));
     },
 };
-pub const ALL: [Measured; 4] = [IS_STATEMENT, READ_CATALOGUE, IS_ROW, PASS];
+pub const ALL: [Measured; 5] = [IS_STATEMENT, READ_STATEMENT, READ_CATALOGUE, IS_ROW, PASS];
 
 /// The sum of all bytes.
 #[unsafe(no_mangle)]
@@ -60,13 +66,16 @@ pub fn cases() -> Vec<Case> {
     let tables = [1, 16, 256];
     let columns = [1, 16, 64];
     let grown = tables.iter().flat_map(|tables| columns.iter().map(|columns| grown_catalogue(*tables, *columns)));
-    let sizes = [100, 1_000, 10_000, 65_536];
-    let inserts = sizes.iter().map(|size| statement("INSERT", *size, insert));
-    let runs = sizes.iter().map(|size| statement("DELETE, one run of nodes", *size, long_condition));
-    let texts = sizes.iter().map(|size| statement("raw text, ASCII", *size, |length| text("a", length)));
-    let others = sizes.iter().map(|size| statement("raw text, 2 bytes a character", *size, |length| text("é", length)));
     let rows = [4, 64, 1_024].into_iter().map(row);
-    grown.chain([long_names()]).chain(rows).chain(inserts).chain(runs).chain(texts).chain(others).collect()
+    let sizes = [100, 1_000, 10_000, 65_536];
+    let statements = [IS_STATEMENT, READ_STATEMENT].into_iter().flat_map(|reader| {
+        let inserts = sizes.map(|size| statement(reader, "INSERT", size, insert));
+        let runs = sizes.map(|size| statement(reader, "DELETE, one run", size, long_condition));
+        let texts = sizes.map(|size| statement(reader, "raw text, ASCII", size, |length| text("a", length)));
+        let others = sizes.map(|size| statement(reader, "raw text, 2 bytes", size, |length| text("é", length)));
+        [inserts, runs, texts, others].into_iter().flatten()
+    });
+    grown.chain([long_names()]).chain(rows).chain(statements).collect()
 }
 
 fn column(number: usize) -> Column {
@@ -84,14 +93,14 @@ fn catalogue_case(name: String, tables: Vec<Table>) -> Case {
 }
 
 fn grown_catalogue(tables: usize, columns: usize) -> Case {
-    let name = format!("catalogue, {tables} x {columns}");
+    let name = format!("read_catalogue, {tables} x {columns}");
     catalogue_case(name, (0..tables).map(|number| table(number, format!("table_{number}"), columns)).collect())
 }
 
 /// The dearest names for the search for repeats that the limits allow: long, and alike but for their end.
 fn long_names() -> Case {
     let named = |number: usize| table(number, format!("{}{number:03}", "n".repeat(125)), 1);
-    catalogue_case("catalogue, 256 x 1, long names".to_string(), (0..256).map(named).collect())
+    catalogue_case("read_catalogue, 256 x 1, long names".to_string(), (0..256).map(named).collect())
 }
 
 /// A row of INT, TEXT, BOOL and NULL in turn.
@@ -99,11 +108,11 @@ fn row(values: usize) -> Case {
     let kinds = [Value::Int(41), Value::Text("A-100".to_string()), Value::Bool(true), Value::Null];
     let row = Row { values: kinds.into_iter().cycle().take(values).collect() };
     let bytes = row.encode().expect("a row of this size has an image");
-    Case { name: format!("row, {values} values"), bytes, reader: IS_ROW }
+    Case { name: format!("is_row, {values} values"), bytes, reader: IS_ROW }
 }
 
 /// The largest statement that `make` makes within so many bytes.
-fn statement(name: &str, size: usize, make: impl Fn(usize) -> Statement) -> Case {
+fn statement(reader: Measured, name: &str, size: usize, make: impl Fn(usize) -> Statement) -> Case {
     let image = |parts: usize| make(parts).encode().ok().filter(|image| image.len() <= size);
     let (mut least, mut past) = (1, size);
     while past - least > 1 {
@@ -111,7 +120,8 @@ fn statement(name: &str, size: usize, make: impl Fn(usize) -> Statement) -> Case
         if image(middle).is_some() { least = middle } else { past = middle }
     }
     let bytes = image(least).expect("one part has room");
-    Case { name: name.to_string(), bytes, reader: IS_STATEMENT }
+    let short = reader.symbol.trim_start_matches("sirklemet_");
+    Case { name: format!("{short}, {name}"), bytes, reader }
 }
 
 fn named(name: &str) -> ObjectName {

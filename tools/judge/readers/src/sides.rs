@@ -51,7 +51,7 @@ impl Kind {
     /// All that can be told.
     pub fn numbers(self) -> &'static [u8] {
         match self {
-            Kind::Statement => &[0, 5],
+            Kind::Statement => &[0, 5, 7, 8],
             Kind::Catalogue => &[0, 6, 7],
             Kind::Row | Kind::RowOf => &[0, 10],
         }
@@ -69,13 +69,10 @@ impl Asked {
     }
 }
 
-/// The Rust decoder. Of a statement its limits and number 8 are left out, as long as no proved reader tells them.
+/// The Rust decoder.
 pub fn rust(asked: &Asked, bytes: &[u8]) -> Told {
     match asked {
-        Asked::Statement => {
-            let told = told::of_statement(bytes);
-            if told.number == 5 { told } else { Told { number: 0, ..told } }
-        }
+        Asked::Statement => told::of_statement(bytes),
         Asked::Catalogue => told::of_catalogue(bytes),
         Asked::Row => told::of_any_row(bytes),
         Asked::RowOf(table) => told::of_row(bytes, &table.tables, table.number),
@@ -86,7 +83,11 @@ pub fn rust(asked: &Asked, bytes: &[u8]) -> Told {
 pub fn proved(asked: &Asked, bytes: &[u8]) -> u8 {
     let or = |taken: bool| if taken { 0 } else { asked.kind().none() };
     match asked {
-        Asked::Statement => or(sirklemet::is_statement(bytes)),
+        Asked::Statement => {
+            let number = sirklemet::read_statement(bytes);
+            assert_eq!(sirklemet::is_statement(bytes), number != 5, "the two readers of a statement differ");
+            number
+        }
         Asked::Catalogue => {
             let number = sirklemet::read_catalogue(bytes);
             assert_eq!(sirklemet::is_catalogue(bytes), number != 6, "the two readers of a catalogue differ");

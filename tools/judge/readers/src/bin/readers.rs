@@ -55,7 +55,7 @@ fn run(options: &Options) -> Result<(), String> {
         return once(symbol, file);
     }
     println!("{}", if options.instructions { "instructions per call" } else { "nanoseconds per call" });
-    println!("{:<34}{:>8}{:>12}{:>10}{:>10}{:>13}", "", "bytes", "reader", "pass", "per byte", "reader/pass");
+    println!("{:<40}{:>8}{:>12}{:>10}{:>10}{:>13}", "", "bytes", "reader", "pass", "per byte", "reader/pass");
     for case in cases().iter().filter(|case| case.name.contains(&options.only)) {
         let cost = if options.instructions { instructions } else { time };
         println!("{}", line(case, [cost(case, &case.reader)?, cost(case, &PASS)?]));
@@ -77,7 +77,7 @@ fn time(case: &Case, function: &Measured) -> Result<f64, String> {
 fn line(case: &Case, [reader, pass]: [f64; 2]) -> String {
     let bytes = case.bytes.len();
     let per_byte = reader / bytes as f64;
-    format!("{:<34}{bytes:>8}{reader:>12.0}{pass:>10.0}{per_byte:>10.2}{:>13.1}", case.name, reader / pass)
+    format!("{:<40}{bytes:>8}{reader:>12.0}{pass:>10.0}{per_byte:>10.2}{:>13.1}", case.name, reader / pass)
 }
 
 /// The instructions of one call, counted while the function and what it calls run.
