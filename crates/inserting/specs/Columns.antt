@@ -95,11 +95,14 @@ all-turn p zero (y ∷ l) {x} {m} h e = and-of (p x) (all p m) (ap (all p) (sym 
 all-turn p (suc i) (y ∷ l) h e = all-turn p i l (and-of (p y) (all p l) h .1) e
 
 pub name-part : {s : List ℕ} {i at e : ℕ} → AllShort of.Names s → Stepped 2 s i at e → Is name (take (e - at) (drop at s)) × ShortText (take (e - at) (drop at s))
-name-part {s} {i} a d = (part-is {f = name} d (a .is), record {
-  short = λ w h. held (a .is) (λ ns k.
-      let t = turn d k in
-      leb-true (length (w .text)) 128 (all-turn (λ (n : Name). shortName (some n)) i ns (a .short ns k) (t .rest ∙ ap (λ (n : Name). n ∷ drop (i + 1) ns) (held-once name (t .holds) h))));
-})
+name-part {s} {i} a d = (
+  part-is {f = name} d (a .is),
+  record {
+    short = λ w h. held (a .is) (λ ns k.
+        let t = turn d k in
+        leb-true (length (w .text)) 128 (all-turn (λ (n : Name). shortName (some n)) i ns (a .short ns k) (t .rest ∙ ap (λ (n : Name). n ∷ drop (i + 1) ns) (held-once name (t .holds) h))));
+  },
+)
 
 -- the text of such a name
 pub text-within : {p s : List ℕ} → Is name p × ShortText p → ((v : Name) → Holds name p v → s ≡ v .text) → length s ≤ 128
@@ -185,14 +188,22 @@ pub record Passed (v : TableSchema) (ns : List Name) (codes : List ℕ) (i total
 pub record Binding (t s codes : List ℕ) (i total : ℕ) : Type 0 where
   pub at : (v : TableSchema) (ns : List Name) → Holds table t v → Holds (listOf 2 name) s ns → Passed v ns codes i total
 
+-- the columns, whose bytes the array begins with, and whose list has n bytes
+pub record Given (v : TableSchema) (ns : List Name) (codes : List ℕ) (n : ℕ) : Type 0 where
+  pub value : List BoundColumnRef
+  pub gives : insertColumns v [] (texts ns) ≡ given value
+  pub count : length value ≡ length ns
+  pub coded : Coded codes value
+  pub long : n ≡ length (listOf 4 boundColumnRef .write value)
+
 -- what is said when all are looked at
 pub record ColumnsBound (v : TableSchema) (ns : List Name) (codes : List ℕ) (r : Measured) : Type 0 where
   pub is : r ≡ sized (listOf 4 boundColumnRef) (insertColumns v [] (texts ns))
-  pub coded : (n : ℕ) → r ≡ measured.Is n → (cs : List BoundColumnRef) × (insertColumns v [] (texts ns) ≡ given cs) × (length cs ≡ length ns) × Coded codes cs
+  pub bound : (n : ℕ) → r ≡ measured.Is n → Given v ns codes n
 
 pub bound-off : {v : TableSchema} {ns : List Name} {codes : List ℕ} {r : Measured} {k : Refusal} → r ≡ measured.Refused k
     → measured.Refused k ≡ sized (listOf 4 boundColumnRef) (insertColumns v [] (texts ns)) → ColumnsBound v ns codes r
-bound-off q h = record { is = q ∙ h; coded = λ n e. let z : _≡_ {A = ℕ} 0 1 = cc in absurd (omega arith) }
+bound-off q h = record { is = q ∙ h; bound = λ n e. let z : _≡_ {A = ℕ} 0 1 = cc in absurd (omega arith) }
 
 pub binding : {t s codes : List ℕ} → Binding t s codes 0 4
 binding = record {
@@ -284,5 +295,11 @@ module _ {t s codes : List ℕ} {i total n at : ℕ} (w : Binding t s codes i to
       let q : insertColumns v (g .before) (texts (drop i ns)) ≡ given [] = ap (λ (l : List Name). insertColumns v (g .before) (texts l)) (drop-of-length-le ns {i = i} z) ∙ columns-done v (g .before) in
       record {
         is = grown-given (g .grown) q;
-        coded = λ m h. (g .grown .done, grown-end (g .grown) q, g .grown .count ∙ sym e, record { is = ap (λ (j : ℕ). take j codes) (g .grown .count) ∙ g .coded });
+        bound = λ m h. record {
+          value = g .grown .done;
+          gives = grown-end (g .grown) q;
+          count = g .grown .count ∙ sym e;
+          coded = record { is = ap (λ (j : ℕ). take j codes) (g .grown .count) ∙ g .coded };
+          long = let y : m ≡ total = cc in y ∙ g .grown .long;
+        };
       }

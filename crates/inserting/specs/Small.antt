@@ -10,6 +10,9 @@ use Rattle.codec.specs.Format.{Every}
 use Rattle.codec.specs.Layout.{pieces}
 use Rattle.bundle.specs.Bundle.{orNil, partsOf, IsBundle, Stepped}
 use Rattle.bundle.specs.Laws.{some-there}
+use Rattle.bundle.specs.Held.{Holds}
+use Rattle.catalogue.specs.Layout.{table}
+use Rattle.rules.specs.Tables.{TableSchema}
 use Rattle.resolving.specs.declared.Measured.{Measured}
 use Rattle.resolving.specs.declared.Measured.the-variants as measured
 
@@ -37,3 +40,9 @@ part-at (p ∷ l) (suc k) h = part-at l k (h .1)
 
 pub part-small : {s : List ℕ} {i at e : ℕ} → Bytes s → IsBundle 2 s → Stepped 2 s i at e → length (take (e - at) (drop at s)) < 65536
 part-small {s} {i} b k d = subst (λ (p : List ℕ). length p < 65536) (sym (d .is)) (part-at (partsOf 2 s) i (parts-short b k .parts))
+
+-- ---- a table's name
+
+pub table-name-small : {t : List ℕ} {v : TableSchema} → Bytes t → Holds table t v → length (v .name) < 65536
+unfolding table
+table-name-small {t} {v} b h = table .back t v b h .1 .1 .1 .0

@@ -1,4 +1,5 @@
 // The target columns of an INSERT, and the columns that it must not leave out.
+use crate::Need;
 use bound::columns::column_ref_len;
 use catalogue::Named;
 use catalogue::column_id;
@@ -6,7 +7,6 @@ use catalogue::column_name;
 use catalogue::column_nullable;
 use catalogue::find_column;
 use catalogue::in_key;
-use crate::Need;
 use names::is_called;
 use repeats::Of;
 use repeats::first_repeated;

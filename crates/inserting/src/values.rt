@@ -3,6 +3,13 @@ use bound::values::bool_len;
 use bound::values::int_len;
 use bound::values::null_len;
 use bound::values::text_len;
+use insert::body_of;
+use insert::explicit_row;
+use insert::has_clauses;
+use insert::has_source;
+use insert::is_values;
+use insert::rows_of;
+use insert::source_of;
 use literals::Scalar;
 use literals::insert_literal;
 use literals::text_of;
@@ -23,12 +30,14 @@ ghost use Rattle.expression.specs.Expression.{expression};
 ghost use Rattle.rules.specs.Answers.{each};
 ghost use Rattle.rules.specs.Bound.{Value, BoundColumnRef};
 ghost use Rattle.rules.specs.Statements.{Expr};
-ghost use Rattle.rules.specs.Analyze.{valueFit, insertRow};
+ghost use Rattle.statement.specs.Layout.{sourceBody, insertion};
+ghost use Rattle.rules.specs.Analyze.{valueFit, insertRow, insertBody};
 ghost use Rattle.rulings.specs.Told.{toldFit, kindOf};
 ghost use Rattle.resolving.specs.Told.{sized};
 ghost use Rattle.inserting.specs.Coded.{columnCode};
 ghost use Rattle.inserting.specs.Small.{AtMost};
 ghost use Rattle.inserting.specs.Values.{Measures, insertValue, fitTold};
+ghost use Rattle.inserting.specs.Inserts.{givenRows};
 
 // A column's byte: 0 INT, 1 TEXT, 2 BOOL, and 4 more where it is nullable.
 fn type_in(code: u8) -> DataType
@@ -100,7 +109,7 @@ fn row_len(row: &[u8], codes: &[u8; 64], n: usize) -> Measured
     Measured::Is(total)
 }
 
-pub fn rows_len(rows: &[u8], codes: &[u8; 64], n: usize) -> Measured
+fn rows_len(rows: &[u8], codes: &[u8; 64], n: usize) -> Measured
     requires { ⌜ Is (listOf 2 (listOf 2 expression)) (now rows) × (n ≤ 64) ⌝ }
     ensures { λ r. ⌜ AtMost 300000000000 r
         × Measures (now (codes .entry)) n (listOf 2 (listOf 2 expression)) (now (rows .entry)) (listOf 4 (listOf 4 value)) (λ cs. each (insertRow cs)) r ⌝ }
@@ -123,4 +132,37 @@ pub fn rows_len(rows: &[u8], codes: &[u8; 64], n: usize) -> Measured
         i += 1;
     }
     Measured::Is(total)
+}
+
+// The rows of VALUES: some, and not in the ROW form.
+fn body_len(b: &[u8], codes: &[u8; 64], n: usize) -> Measured
+    requires { ⌜ Is sourceBody (now b) × (n ≤ 64) ⌝ }
+    ensures { λ r. ⌜ AtMost 300000000000 r × Measures (now (codes .entry)) n sourceBody (now (b .entry)) (listOf 4 (listOf 4 value)) insertBody r ⌝ }
+{
+    if !is_values(b) {
+        return refuse(Class::UnsupportedSql);
+    }
+    if explicit_row(b) {
+        return refuse(Class::UnsupportedSql);
+    }
+    let rows = rows_of(b);
+    if bundle::parts(rows, 2) == 0 {
+        return refuse(Class::InvalidArgument);
+    }
+    rows_len(rows, codes, n)
+}
+
+pub fn source_len(i: &[u8], codes: &[u8; 64], n: usize) -> Measured
+    requires { ⌜ Is insertion (now i) × (n ≤ 64) ⌝ }
+    ensures { λ r. ⌜ AtMost 300000000000 r
+        × Measures (now (codes .entry)) n insertion (now (i .entry)) (listOf 4 (listOf 4 value)) (λ cs v. givenRows cs (v .source)) r ⌝ }
+{
+    if !has_source(i) {
+        return refuse(Class::UnsupportedSql);
+    }
+    let s = source_of(i);
+    if has_clauses(s) {
+        return refuse(Class::UnsupportedSql);
+    }
+    body_len(body_of(s), codes, n)
 }

@@ -23,13 +23,13 @@ refuse-requires : tie.Need-refuse-requires
 refuse-requires c κs = search needs
 
 returns : tie.Need-returns
-returns c = 
+returns c =
     let a = c .before .before .before .before .before .args in
     let fits : SFits w64 (c .before .z .given .0 .0) = record { sfits = c .known-told .given .0 .1 } in
     λ t. rw (toZ-ofZ fits) (integer-is (integerLiteral (a .negative) (a .s .now)) (sym (c .before .before .before .integer-literal .ensures) ∙ c .before .z .given .1))
 
 returns-2 : tie.Need-returns-2
-returns-2 c = 
+returns-2 c =
     let a = c .before .before .before .before .before .args in
     λ t. integer-bad (integerLiteral (a .negative) (a .s .now)) (sym (c .before .before .before .integer-literal .ensures) ∙ c .before .enum-told .given .1)
     ∙ sym (ap (valueOf t) (c .refuse .ensures))

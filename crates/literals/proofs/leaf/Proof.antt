@@ -19,36 +19,36 @@ refuse-requires c κs = search needs
 
 returns : tie.Need-returns
 unfolding leafOf insertLeaf
-returns c = 
+returns c =
     let s = c .before .before .before .before in
     leaf-tells (s .args .e .now) (s .args .i) (s .args .k) (s .pre .1 .0) (s .pre .1 .1) (rw (c .before .before .match .keys1, ← c .before .text .ensures) (c .integer .ensures _))
 
 returns-2 : tie.Need-returns-2
 unfolding leafOf insertLeaf
-returns-2 c = 
+returns-2 c =
     let s = c .before .before in
     leaf-tells (s .args .e .now) (s .args .i) (s .args .k) (s .pre .1 .0) (s .pre .1 .1) (rw (c .match .keys2))
 
 returns-3 : tie.Need-returns-3
 unfolding leafOf insertLeaf
-returns-3 c = 
+returns-3 c =
     let s = c .before .before in
     leaf-tells (s .args .e .now) (s .args .i) (s .args .k) (s .pre .1 .0) (s .pre .1 .1) (rw (c .match .keys3))
 
 returns-4 : tie.Need-returns-4
 unfolding leafOf insertLeaf
-returns-4 c = 
+returns-4 c =
     let s = c .before .before in
     leaf-tells (s .args .e .now) (s .args .i) (s .args .k) (s .pre .1 .0) (s .pre .1 .1) (rw (c .match .keys4))
 
 returns-5 : tie.Need-returns-5
 unfolding leafOf insertLeaf
-returns-5 c = 
+returns-5 c =
     let s = c .before .before in
     leaf-tells (s .args .e .now) (s .args .i) (s .args .k) (s .pre .1 .0) (s .pre .1 .1) (rw (c .match .keys5))
 
 returns-6 : tie.Need-returns-6
-returns-6 c = 
+returns-6 c =
     let s = c .before .before .before in
     leaf-tells (s .args .e .now) (s .args .i) (s .args .k) (s .pre .1 .0) (s .pre .1 .1) (let n = c .before .match .rest in leaf-other (s .args .k) _ (n .0 .0 .0 .0 .1) (n .0 .0 .0 .1) (n .0 .0 .1) (n .0 .1) (n .1) ∙ sym (ap (valueOf _) (c .refuse .ensures)))
 

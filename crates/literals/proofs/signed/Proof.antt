@@ -51,7 +51,7 @@ integer-requires : tie.Need-integer-requires
 integer-requires c κs = search needs
 
 returns-4 : tie.Need-returns-4
-returns-4 c = 
+returns-4 c =
     let s = c .before .before .before .before .before .before .before in
     sign-tells (s .args .e .now) (s .args .i) (s .args .k) (s .pre .1 .0) (c .before .before .before .before .before .if1 .left) (c .before .before .before .before .if2 .left)
     (sym (c .before .before .before .kind .ensures) ∙ c .before .before .if3 .left) (λ t. rw (← c .before .text .ensures) (c .integer .ensures t))

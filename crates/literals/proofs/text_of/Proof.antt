@@ -19,7 +19,7 @@ text-requires : tie.Need-text-requires
 text-requires c κs = rw (c .nodes .ensures) (last-node (known (c .before .shared-slice-known .given)) (c .before .before .pre))
 
 returns : tie.Need-returns
-returns c = 
+returns c =
     let e = c .before .before .before .args .e .now in
     let l = last-node (known (c .before .before .shared-slice-known .given)) (c .before .before .before .pre) in
     (c .text .ensures ∙ ap (λ (n : ℕ). (nodeAt e (n - 1)) .text) (c .before .nodes .ensures), rw (c .text .ensures, c .before .nodes .ensures) (text-short (known (c .before .before .shared-slice-known .given)) l))
