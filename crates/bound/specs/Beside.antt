@@ -30,6 +30,10 @@ sets-apart o i [] j y h = refl
 sets-apart o i (a ∷ x) j y h =
     ap (λ (l : List ℕ). sets l (suc i) x) (set-apart o i a j y (omega arith)) ∙ sets-apart (set o i a) (suc i) x j y (omega arith)
 
+-- nothing is longer than it was
+pub wrote-long : {o o′ x : List ℕ} {i j : ℕ} → Wrote o i x j o′ → length o′ ≡ length o
+wrote-long {o} {x = x} {i = i} w = ap length (w .is) ∙ length-sets o i x
+
 -- a write in front of what was written first
 pub in-front : {o o₁ o₂ h x : List ℕ} {i j k : ℕ} → Wrote o j x k o₁ → Wrote o₁ i h j o₂ → Wrote o i (h ++ x) k o₂
 in-front {o} {h = h} {x = x} {i = i} {j = j} p q = record {
@@ -67,7 +71,6 @@ pub record Beside (o : List ℕ) (i : ℕ) (x : List ℕ) (k j : ℕ) (y : List 
 pub beside-none : (o : List ℕ) (i j : ℕ) → i ≤ j → Beside o i [] i j [] j o
 beside-none o i j h = record { end = omega arith; far = omega arith; apart = h; is = refl }
 
--- nothing is longer than it was
 pub beside-long : {o o₁ x y : List ℕ} {i j k l : ℕ} → Beside o i x k j y l o₁ → length o₁ ≡ length o
 beside-long {o} {x = x} {y = y} {i = i} {j = j} b = ap length (b .is) ∙ length-sets (sets o i x) j y ∙ length-sets o i x
 
@@ -100,7 +103,8 @@ beside-then b c h = beside-second (beside-first b (record { end = c .end; is = r
 pub beside-joined : {o o₁ x y : List ℕ} {i j l : ℕ} → Beside o i x j j y l o₁ → Wrote o i (x ++ y) l o₁
 beside-joined {x = x} {y = y} b = then {x = x} {y = y} (record { end = b .end; is = refl }) (record { end = b .far; is = b .is })
 
--- ---- a list's lengths and its parts
+-- ---- a list's lengths and its parts: a loop begins behind the count with `listed-none`, has in each turn room for a part and for its length by
+-- `listed-space`, writes the part and then its length (`listed-more`), and ends with `listed-all`
 
 -- the first n parts are written, their lengths from i to k and their bytes, behind the place of all lengths, up to l
 pub record Listed {A : Type 0} (f : Format A) (vs : List A) (n : ℕ) (o : List ℕ) (i k l : ℕ) (o′ : List ℕ) : Type 0 where

@@ -37,6 +37,10 @@ abbrev pub passing : {A : Type 0} → (A → Bool) → Option A → Bool
 passing t none = false
 passing t (some a) = t a
 
+pub not-passing : {A : Type 0} (t : A → Bool) (o : Option A) → isThere o ≡ false → passing t o ≡ false
+not-passing t none h = refl
+not-passing t (some a) h = let z : _≡_ {A = ℕ} 0 1 = cc in absurd (omega arith)
+
 there-passing : {A : Type 0} (t : A → Bool) (o : Option A) → isThere (next o (λ a. cond (t a) (some a) none)) ≡ passing t o
 there-passing t none = refl
 there-passing t (some a) = go (t a)
@@ -54,11 +58,7 @@ module _ {A : Type 0} (c : Format A) (t : A → Bool) (s : List ℕ) where
   checked-on e = checked-is ∙ ap (passing t) e
 
   pub checked-not : isThere (c .read s) ≡ false → isThere (checked c t .read s) ≡ false
-  checked-not e = checked-is ∙ go (c .read s) e
-    where
-      go : (o : Option A) → isThere o ≡ false → passing t o ≡ false
-      go none h = refl
-      go (some a) h = let z : _≡_ {A = ℕ} 0 1 = cc in absurd (omega arith)
+  checked-not e = checked-is ∙ not-passing t (c .read s) e
 
   pub checked-value : {a : A} → checked c t .read s ≡ some a → (c .read s ≡ some a) × (t a ≡ true)
   checked-value {a} e = next-some (c .read s) (λ x. cond (t x) (some x) none) e (λ x h k. go x h (t x) refl k)

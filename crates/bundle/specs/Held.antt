@@ -43,23 +43,31 @@ held {f = f} {s = s} i k = some-there (f .read s) (i .there) k
 pub held-once : {A : Type 0} (f : Format A) {s : List ℕ} {v w : A} → Holds f s v → Holds f s w → v ≡ w
 held-once f {v = v} {w = w} h k = Option·some-injective v w (sym h ∙ k)
 
-module _ {A : Type 0} (f : Format A) {s : List ℕ} where
-  pub list-bundle : Is (listOf 2 f) s → IsBundle 2 s
-  list-bundle i = record { there = and-of (isThere (pieces 2 .read s)) (all (λ p. isThere (f .read p)) (partsOf 2 s)) (sym (list-is 2 f s) ∙ i .there) .0 }
+-- ---- lists, with counts of w bytes
+
+pub list-bundle-by : {A : Type 0} (w : ℕ) (f : Format A) {s : List ℕ} → Is (listOf w f) s → IsBundle w s
+list-bundle-by w f {s} i = record { there = and-of (isThere (pieces w .read s)) (all (λ p. isThere (f .read p)) (partsOf w s)) (sym (list-is w f s) ∙ i .there) .0 }
+
+-- counts of 2 bytes, as the statement and the catalogue have; so are `Along` and `Left`
+pub list-bundle : {A : Type 0} (f : Format A) {s : List ℕ} → Is (listOf 2 f) s → IsBundle 2 s
+list-bundle f i = list-bundle-by 2 f i
 
 pub list-count : {A : Type 0} (f : Format A) (s : List ℕ) {vs : List A} → Holds (listOf 2 f) s vs → length vs ≡ length (partsOf 2 s)
 list-count f s h = list-values 2 f s h .count
 
 -- a loop over the n parts of s, which has reached part i at byte `at`
-pub record Along (s : List ℕ) (n i at : ℕ) : Type 0 where
-  pub bundle : IsBundle 2 s
-  pub count : n ≡ length (partsOf 2 s)
-  pub here : PartAt 2 s i at
+pub record AlongBy (w : ℕ) (s : List ℕ) (n i at : ℕ) : Type 0 where
+  pub bundle : IsBundle w s
+  pub count : n ≡ length (partsOf w s)
+  pub here : PartAt w s i at
 
-pub along : {A : Type 0} (f : Format A) {s : List ℕ} {n at : ℕ} → Is (listOf 2 f) s → n ≡ length (partsOf 2 s) → PartAt 2 s 0 at → Along s n 0 at
-along f i k h = record { bundle = list-bundle f i; count = k; here = h }
+abbrev pub Along : List ℕ → ℕ → ℕ → ℕ → Type 0
+Along = AlongBy 2
 
-pub along-on : {s : List ℕ} {n i at e : ℕ} → Along s n i at → Stepped 2 s i at e → Along s n (i + 1) e
+pub along : {A : Type 0} (f : Format A) {w : ℕ} {s : List ℕ} {n at : ℕ} → Is (listOf w f) s → n ≡ length (partsOf w s) → PartAt w s 0 at → AlongBy w s n 0 at
+along f {w} i k h = record { bundle = list-bundle-by w f i; count = k; here = h }
+
+pub along-on : {w : ℕ} {s : List ℕ} {n i at e : ℕ} → AlongBy w s n i at → Stepped w s i at e → AlongBy w s n (i + 1) e
 along-on a d = record { bundle = a .bundle; count = a .count; here = d .next }
 
 -- the value of the part that the loop has reached
@@ -76,36 +84,39 @@ each-turn {A} {f} {l} {vs} i r h = go (drop i vs) refl
     go [] e = absurd (omega (arith, length-drop i vs, ap length e, r .count))
     go (x ∷ m) e = (getD vs i x, r .value i x h, drop-cons vs i x (omega (arith, r .count)) ∙ ap (λ (k : ℕ). getD vs i x ∷ drop k vs) (sym (add-one i)))
 
-module _ {A : Type 0} {f : Format A} {s : List ℕ} {i at e : ℕ} (d : Stepped 2 s i at e) where
-  pub turn : {vs : List A} → Holds (listOf 2 f) s vs → Turn f s vs i at e
+module _ {A : Type 0} {f : Format A} {w : ℕ} {s : List ℕ} {i at e : ℕ} (d : Stepped w s i at e) where
+  pub turn : {vs : List A} → Holds (listOf w f) s vs → Turn f s vs i at e
   turn h =
-      let t = each-turn i (list-values 2 f s h) (omega (arith, d .next .few)) in
+      let t = each-turn i (list-values w f s h) (omega (arith, d .next .few)) in
       record { value = t .0; holds = ap (f .read) (d .is) ∙ t .1; rest = t .2 }
 
-  pub part-is : Is (listOf 2 f) s → Is f (take (e - at) (drop at s))
+  pub part-is : Is (listOf w f) s → Is f (take (e - at) (drop at s))
   part-is k = held k (λ vs h. is-held (turn h .holds))
 
 -- what a loop has still to find: F of the values from number i on is F of all of them
-pub record Left {A B : Type 0} (f : Format A) (F : ℕ → List A → B) (s : List ℕ) (i : ℕ) : Type 0 where
-  pub is : (vs : List A) → Holds (listOf 2 f) s vs → F 0 vs ≡ F i (drop i vs)
+pub record LeftBy {A B : Type 0} (w : ℕ) (f : Format A) (F : ℕ → List A → B) (s : List ℕ) (i : ℕ) : Type 0 where
+  pub is : (vs : List A) → Holds (listOf w f) s vs → F 0 vs ≡ F i (drop i vs)
 
-pub left : {A B : Type 0} {f : Format A} {F : ℕ → List A → B} {s : List ℕ} → Left f F s 0
+abbrev pub Left : {A B : Type 0} → Format A → (ℕ → List A → B) → List ℕ → ℕ → Type 0
+Left = LeftBy 2
+
+pub left : {A B : Type 0} {w : ℕ} {f : Format A} {F : ℕ → List A → B} {s : List ℕ} → LeftBy w f F s 0
 left = record { is = λ vs h. refl }
 
-module _ {A B : Type 0} {f : Format A} {F : ℕ → List A → B} {s : List ℕ} {i : ℕ} (k : Left f F s i) where
-  module _ {at e : ℕ} (d : Stepped 2 s i at e) where
-    pub left-turn : (vs : List A) (h : Holds (listOf 2 f) s vs) → F 0 vs ≡ F i (turn d h .value ∷ drop (i + 1) vs)
+module _ {A B : Type 0} {w : ℕ} {f : Format A} {F : ℕ → List A → B} {s : List ℕ} {i : ℕ} (k : LeftBy w f F s i) where
+  module _ {at e : ℕ} (d : Stepped w s i at e) where
+    pub left-turn : (vs : List A) (h : Holds (listOf w f) s vs) → F 0 vs ≡ F i (turn d h .value ∷ drop (i + 1) vs)
     left-turn vs h = k .is vs h ∙ ap (F i) (turn d h .rest)
 
     -- a value that is passed, and one that decides
-    pub left-on : ((v : A) (l : List A) → Holds f (take (e - at) (drop at s)) v → F i (v ∷ l) ≡ F (i + 1) l) → Left f F s (i + 1)
+    pub left-on : ((v : A) (l : List A) → Holds f (take (e - at) (drop at s)) v → F i (v ∷ l) ≡ F (i + 1) l) → LeftBy w f F s (i + 1)
     left-on g = record { is = λ vs h. left-turn vs h ∙ g (turn d h .value) (drop (i + 1) vs) (turn d h .holds) }
 
-    pub left-stop : {x : B} → ((v : A) (l : List A) → Holds f (take (e - at) (drop at s)) v → F i (v ∷ l) ≡ x) → (vs : List A) → Holds (listOf 2 f) s vs → F 0 vs ≡ x
+    pub left-stop : {x : B} → ((v : A) (l : List A) → Holds f (take (e - at) (drop at s)) v → F i (v ∷ l) ≡ x) → (vs : List A) → Holds (listOf w f) s vs → F 0 vs ≡ x
     left-stop g vs h = left-turn vs h ∙ g (turn d h .value) (drop (i + 1) vs) (turn d h .holds)
 
   -- no value is left
-  pub left-end : {n at : ℕ} → Along s n i at → n ≤ i → (vs : List A) → Holds (listOf 2 f) s vs → F 0 vs ≡ F i []
+  pub left-end : {n at : ℕ} → AlongBy w s n i at → n ≤ i → (vs : List A) → Holds (listOf w f) s vs → F 0 vs ≡ F i []
   left-end a l vs h =
-      let z : length vs ≤ i = omega (arith, a .count, list-count f s h) in
+      let z : length vs ≤ i = omega (arith, a .count, list-values w f s h .count) in
       k .is vs h ∙ ap (F i) (drop-of-length-le vs {i = i} z)

@@ -6,3 +6,4 @@ pub mod Heads
 pub mod Values
 pub mod Cases
 pub mod Held
+pub mod Looks

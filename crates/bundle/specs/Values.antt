@@ -1,7 +1,7 @@
 -- What a value that was read tells of the bytes that it was read from: codes, marks, and what stands behind them.
 -- Assumes nothing.
 use mathlib.Core.Path.{_≡_, refl, sym, _∙_, ap}
-use mathlib.Core.Bool.{Bool, true, false, not}
+use mathlib.Core.Bool.{Bool, true, false, cond, not}
 use mathlib.Core.Option.{Option, none, some, Option·none-ne-some, Option·some-injective}
 use mathlib.Core.Logic.{_⊎_, inl, inr}
 use mathlib.Core.List.{List, [], _∷_}
@@ -10,10 +10,11 @@ use native.Mathlib.Omega.{arith}
 use lib.ListN.{length, drop, getD, getElem?, length-drop}
 use lib.Seq.{drop-drop, getD-drop}
 use lib.Dec.{eqb, eqb·suc-zero}
+use Rattle.utf8.specs.Decide.{isUtf8}
 use Rattle.codec.specs.Format.{Format, Fixed, Enum}
 use Rattle.codec.specs.Ways.{next, optionalRead}
 use Rattle.codec.specs.Laws.{next-some, at-place}
-use Rattle.codec.specs.Layout.{nothing, code, bools, mark, headed}
+use Rattle.codec.specs.Layout.{text, nothing, code, bools, mark, headed}
 use Rattle.codec.specs.Sums.{Case, case, Some, made, spread, sum, choice}
 use Rattle.bundle.specs.Bundle.{isThere}
 use Rattle.bundle.specs.Fields.{Spot, codeSpot, bothLook, field-value, headed-value, choice-value, CaseHas, sum-has}
@@ -21,6 +22,14 @@ use Rattle.bundle.specs.Fields.{Spot, codeSpot, bothLook, field-value, h
 -- a value that was made of another
 pub mapped-value : {A B : Type 0} (o : Option A) (f : A → B) {b : B} → next o (λ a. some (f a)) ≡ some b → (a : A) × (o ≡ some a) × (f a ≡ b)
 mapped-value o f {b} e = next-some o (λ a. some (f a)) e (λ a h k. (a, h, Option·some-injective (f a) b k))
+
+-- a text holds itself
+pub text-value : (s : List ℕ) {t : List ℕ} → text .read s ≡ some t → s ≡ t
+text-value s {t} e = go (isUtf8 s) e
+  where
+    go : (b : Bool) → cond b (some s) none ≡ some t → s ≡ t
+    go true h = Option·some-injective s t h
+    go false h = absurd (Option·none-ne-some t h)
 
 -- ---- fields
 

@@ -125,7 +125,7 @@ pub record Look (f : List Name → Bool) (z : Bool) : Type 0 where
   pub on : (a b : List Name) → f a ≡ z → f (a ++ b) ≡ f b
   pub stop : (a b : List Name) → f a ≡ not z → f (a ++ b) ≡ not z
 
-all-append : (p : Name → Bool) (a b : List Name) → all p (a ++ b) ≡ (all p a && all p b)
+pub all-append : {A : Type 0} (p : A → Bool) (a b : List A) → all p (a ++ b) ≡ (all p a && all p b)
 all-append p [] b = refl
 all-append p (x ∷ a) b = ap (λ (t : Bool). p x && t) (all-append p a b) ∙ sym (and-assoc (p x) (all p a) (all p b))
 

@@ -34,7 +34,8 @@ pub fn is_at(place: Repeat, i: usize) -> bool
     }
 }
 
-fn are_alike_names(a: &[u8], b: &[u8]) -> bool
+// Whether two names are one.
+pub fn are_alike_names(a: &[u8], b: &[u8]) -> bool
     requires { ⌜ ShortIn name some (now a) × ShortIn name some (now b) ⌝ }
     ensures { λ r. ⌜ ((v w : Name) → Holds name (now (a .entry)) v → Holds name (now (b .entry)) w → r ≡ alikeNames (some v) (some w)) ⌝ }
 {

@@ -1,1 +1,2 @@
 pub mod Layout
+pub mod Obeyed

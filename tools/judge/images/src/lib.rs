@@ -11,4 +11,5 @@ pub mod run;
 pub mod show;
 pub mod statement;
 pub mod text;
+pub mod told;
 pub mod value;

@@ -1,0 +1,80 @@
+// A query: the names of a plain SELECT.
+use crate::named::condition_beyond;
+use crate::named::name_beyond;
+use crate::named::table_beyond;
+ghost use mathlib.Core.Path.{_≡_};
+ghost use mathlib.Core.List.{List};
+ghost use Rattle.codec.specs.Layout.{listOf};
+ghost use Rattle.bundle.specs.Held.{Is, Holds};
+ghost use Rattle.rules.specs.Statements.{Item, From, Select, QueryBody, Query};
+ghost use Rattle.rules.specs.Limits.{gather, itemNames, fromNames, heldBySelect, heldByBody};
+ghost use Rattle.statement.specs.Layout.{item, selectFrom, select, queryBody, selection};
+ghost use Rattle.ascii.specs.Beyond.{Beyond};
+
+fn item_beyond(i: &[u8]) -> bool
+    requires { ⌜ Is item (now i) ⌝ }
+    ensures { λ r. ⌜ ((v : Item) → Holds item (now (i .entry)) v → r ≡ Beyond (itemNames v)) ⌝ }
+{
+    if select::item_code(i) != 2 {
+        return false;
+    }
+    name_beyond(select::column_of(i))
+}
+
+fn items_beyond(s: &[u8]) -> bool
+    requires { ⌜ Is (listOf 2 item) (now s) ⌝ }
+    ensures { λ r. ⌜ ((vs : List Item) → Holds (listOf 2 item) (now (s .entry)) vs → r ≡ Beyond (gather itemNames vs)) ⌝ }
+{
+    let n = bundle::parts(s, 2);
+    let mut at = bundle::first(s, 2);
+    let mut i = 0;
+    while i < n {
+        let end = bundle::next(s, 2, i, at);
+        if item_beyond(&s[at..end]) {
+            return true;
+        }
+        at = end;
+        i += 1;
+    }
+    false
+}
+
+fn from_beyond(f: &[u8]) -> bool
+    requires { ⌜ Is selectFrom (now f) ⌝ }
+    ensures { λ r. ⌜ ((v : From) → Holds selectFrom (now (f .entry)) v → r ≡ Beyond (fromNames v)) ⌝ }
+{
+    if select::from_code(f) != 1 {
+        return false;
+    }
+    table_beyond(select::table_of(f))
+}
+
+fn select_beyond(s: &[u8]) -> bool
+    requires { ⌜ Is select (now s) ⌝ }
+    ensures { λ r. ⌜ ((v : Select) → Holds select (now (s .entry)) v → r ≡ Beyond (heldBySelect v .names)) ⌝ }
+{
+    if from_beyond(select::from_of(s)) {
+        return true;
+    }
+    if items_beyond(select::items_of(s)) {
+        return true;
+    }
+    condition_beyond(select::condition_of(s))
+}
+
+fn body_beyond(b: &[u8]) -> bool
+    requires { ⌜ Is queryBody (now b) ⌝ }
+    ensures { λ r. ⌜ ((v : QueryBody) → Holds queryBody (now (b .entry)) v → r ≡ Beyond (heldByBody v .names)) ⌝ }
+{
+    if select::body_code(b) != 1 {
+        return false;
+    }
+    select_beyond(select::select_of(b))
+}
+
+pub fn query_beyond(q: &[u8]) -> bool
+    requires { ⌜ Is selection (now q) ⌝ }
+    ensures { λ r. ⌜ ((v : Query) → Holds selection (now (q .entry)) v → r ≡ Beyond (heldByBody (v .body) .names)) ⌝ }
+{
+    body_beyond(select::body_of(q))
+}

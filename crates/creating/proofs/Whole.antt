@@ -1,0 +1,262 @@
+-- The steps behind the columns: where the key stands, how many ids it has, and how long the whole is.
+-- Assumes nothing.
+use mathlib.Core.Path.{_≡_, refl, sym, ap, _∙_, subst}
+use mathlib.Core.Bool.{Bool, true, false}
+use mathlib.Core.List.{List, [], _∷_, _++_, map}
+use mathlib.Core.Option.{Option, none, some}
+use Prim.Native.Nat.{ℕ, _+_, _*_, _≤_}
+use native.Mathlib.Omega.{arith}
+use lib.ListN.{length, length-map, length-append, drop, getD}
+use Rattle.codec.specs.Layout.{alone, listOf}
+use Rattle.value.specs.Parts.{columnId}
+use Rattle.bound.specs.Layout.{boundStatement}
+use Rattle.bound.specs.Made.{columnIds}
+use Rattle.bound.specs.Spelt.{ids-length}
+use Rattle.bound.specs.Sizes.{create-table-length}
+use Rattle.bundle.specs.Bundle.{partsOf}
+use Rattle.bundle.specs.Held.{Holds, Is, Shows, same, held, held-once, is-held}
+use Rattle.create.specs.Held.{isKey}
+use Rattle.expression.specs.Names.{Within}
+use Rattle.repeats.specs.declared.Of.the-variants as of
+use Rattle.repeats.specs.declared.Repeat.{Repeat}
+use Rattle.repeats.specs.Repeats.{firstRepeated}
+use Rattle.repeats.specs.Entries.{entry, FindsRepeat}
+use Rattle.resolving.specs.declared.Measured.{Measured}
+use Rattle.resolving.specs.declared.Measured.the-variants as measured
+use Rattle.resolving.specs.Told.{sized}
+use Rattle.resolving.specs.Steps.{classed, step-on, step-off, test-on, test-off, sized-given, sized-refused}
+use Rattle.resolving.specs.Short.{short-plain}
+use Rattle.resolving.specs.Tables.{newName, canonical-length}
+use Rattle.rules.specs.declared.ColumnId.{ColumnId}
+use Rattle.rules.specs.declared.Class.{Class}
+use Rattle.rules.specs.declared.Class.the-variants.{SchemaMismatch, ConstraintViolation, UnsupportedSql}
+use Rattle.rules.specs.declared.Refusal.{Refusal}
+use Rattle.rules.specs.Lists.{Text, isSome, isEmpty, any, all, find}
+use Rattle.rules.specs.Limits.{objectNames, heldByCreateTable, heldWithin}
+use Rattle.rules.specs.Answers.{Answer, given, refused, refuse, refuseIf, found, _>>=_, _>>_}
+use Rattle.rules.specs.Names.{canonical, simpleName}
+use Rattle.rules.specs.Tables.{ColumnSchema, Catalogue, sameId, columnNamed, tableByName}
+use Rattle.rules.specs.Statements.{Name, ObjectName, plain, qualified, ColumnDefinition, Constraint, primaryKey, CreateTable}
+use Rattle.rules.specs.Theorems.Answered.{never-given, bind-given}
+use Rattle.rules.specs.Analyze.{defineColumns, constraints, keyIds, outsideNull, analyzeCreateTable}
+use Rattle.statement.specs.Layout.{name, columnDefinition, constraint, create}
+use Rattle.creating.specs.declared.Key.{Key}
+use Rattle.creating.specs.declared.Key.the-variants.{Nowhere, Column, Constrained}
+use Rattle.creating.specs.declared.Keyed.{Keyed}
+use Rattle.creating.specs.declared.Keyed.the-variants as keyed
+use Rattle.creating.specs.Defined.{schemas, definition, keyOf, created, keyTable, key-joined, defineTable, create-steps, roomFor, room-is}
+use Rattle.creating.specs.Keys.{KeyAt, NamedAt, ByColumn, ByConstraint, key-inline, ColumnsRead, ReadsConstraints, readOf, readKey, ReadsKey, read-joined, counted}
+use Rattle.creating.specs.Within.{PlaceIn, KeyIn, names-few}
+use Rattle.creating.proofs.Names.{find-there, one-name, PartIs, part-at}
+
+-- ---- columns, then constraints
+
+module _ (v : CreateTable) where
+  pub read-both : {key : Key} (r : Keyed) → ColumnsRead (v .columns) key
+      → ((names : Option (List Text)) → KeyAt (v .columns) (v .constraints) key names → ReadsConstraints (v .columns) (v .constraints) names r) → ReadsKey v r
+  read-both (keyed.Is k) c f =
+      let g = f (c .names) (key-inline (v .constraints) (c .at)) in
+      record {
+        names = g .names;
+        gives = step-on _ (c .gives) ∙ step-on (λ names. given (readOf (schemas 0 (v .columns)) names)) (g .gives);
+        at = g .at;
+      }
+  read-both (keyed.Refused k) c f =
+      step-on _ (c .gives) ∙ step-off (λ names. given (readOf (schemas 0 (v .columns)) names)) (f (c .names) (key-inline (v .constraints) (c .at)))
+
+  pub read-columns-off : {k : Class} → defineColumns (definition [] none) (v .columns) ≡ refuse k → readKey v ≡ refuse k
+  read-columns-off e = step-off _ e
+
+-- the place of a repeat, of the statement's bytes and of the columns'
+pub place-of : {s : List ℕ} (p : List ℕ) {place : Repeat} → Is create s → PlaceIn s place → ((v : CreateTable) → Holds create s v → Holds (listOf 2 columnDefinition) p (v .columns))
+    → FindsRepeat of.Columns p place
+place-of {s} p {place} i w g vs h =
+    held i (λ v k. subst (λ (l : List ColumnDefinition). place ≡ firstRepeated (map (entry of.Columns) l)) (held-once (listOf 2 columnDefinition) {s = p} (g v k) h) (w .is v k))
+
+pub place-in : {s : List ℕ} (p : List ℕ) {place : Repeat} → FindsRepeat of.Columns p place → ((v : CreateTable) → Holds create s v → Holds (listOf 2 columnDefinition) p (v .columns)) → PlaceIn s place
+place-in p f g = record { is = λ v h. f (v .columns) (g v h) }
+
+-- ---- how many ids
+
+module _ (cs : List ColumnDefinition) {names : Option (List Text)} where
+  pub count-none : names ≡ none → counted (keyOf (schemas 0 cs) names) ≡ measured.Refused (classed ConstraintViolation)
+  count-none e = ap (λ (o : Option (List Text)). counted (keyOf (schemas 0 cs) o)) e
+
+  pub count-column : {i : ℕ} → ByColumn cs i names → counted (keyOf (schemas 0 cs) names) ≡ measured.Is 1
+  count-column {i} k =
+      let f = find-there 0 i cs (k .here) in
+      ap (λ (o : Option (List Text)). counted (keyOf (schemas 0 cs) o)) (k .is) ∙ ap counted (one-name (schemas 0 cs) (canonical (k .column .name)) (f .1))
+
+  pub count-list : {l : List Text} → names ≡ some l → counted (keyOf (schemas 0 cs) names) ≡ counted (keyIds (schemas 0 cs) [] l)
+  count-list e = ap (λ (o : Option (List Text)). counted (keyOf (schemas 0 cs) o)) e
+
+-- a key's ids are as many as its names
+keys-length : (cs : List ColumnSchema) (before : List ColumnId) (ns : List Text) {ids : List ColumnId} → keyIds cs before ns ≡ given ids → length ids ≡ length before + length ns
+unfolding keyIds
+keys-length cs before [] {ids} e = let z : before ≡ ids = cc in omega (arith, ap length z)
+keys-length cs before (n ∷ ns) {ids} e =
+    let a = bind-given (found (find (columnNamed n) cs) SchemaMismatch) (λ c. refuseIf (any (sameId (c .id)) before) ConstraintViolation >> keyIds cs (before ++ (c .id ∷ [])) ns) ids e in
+    go (a .0) (any (sameId (a .0 .id)) before) (λ h. keys-length cs (before ++ (a .0 .id ∷ [])) ns h) (a .2)
+  where
+    go : (c : ColumnSchema) (b : Bool) → (keyIds cs (before ++ (c .id ∷ [])) ns ≡ given ids → length ids ≡ length (before ++ (c .id ∷ [])) + length ns)
+        → (refuseIf b ConstraintViolation >> keyIds cs (before ++ (c .id ∷ [])) ns) ≡ given ids → length ids ≡ length before + length (n ∷ ns)
+    go c true f e = absurd (never-given e)
+    go c false f e = omega (arith, f e, length-append before (c .id ∷ []))
+
+-- what was counted, by the case
+pub record Counted (a : Answer (List ColumnId)) (n : ℕ) : Type 0 where
+  pub ids : List ColumnId
+  pub gives : a ≡ given ids
+  pub many : n ≡ length ids
+
+pub counted-is : (a : Answer (List ColumnId)) {m : Measured} {n : ℕ} → m ≡ counted a → m ≡ measured.Is n → Counted a n
+counted-is a {m} {n} e h = go a (sym h ∙ e)
+  where
+    go : (a : Answer (List ColumnId)) → measured.Is n ≡ counted a → Counted a n
+    go (given ids) e = record { ids = ids; gives = refl; many = cc }
+    go (refused r) e = let z : _≡_ {A = ℕ} 0 1 = cc in absurd (omega arith)
+
+pub counted-off : (a : Answer (List ColumnId)) {m : Measured} {r : Refusal} → m ≡ counted a → m ≡ measured.Refused r → a ≡ refused r
+counted-off a {m} {r} e h = go a (sym h ∙ e)
+  where
+    go : (a : Answer (List ColumnId)) → measured.Refused r ≡ counted a → a ≡ refused r
+    go (given ids) e = let z : _≡_ {A = ℕ} 0 1 = cc in absurd (omega arith)
+    go (refused q) e = cc
+
+-- a key has at most 64 ids
+pub key-few : (v : CreateTable) → heldWithin (heldByCreateTable v) ≡ true → {key : Key} {names : Option (List Text)} → KeyAt (v .columns) (v .constraints) key names
+    → {ids : List ColumnId} → keyOf (schemas 0 (v .columns)) names ≡ given ids → length ids ≤ 64
+key-few v w {key} {names} k {ids} e =
+    let a = bind-given (found names ConstraintViolation) (keyIds (schemas 0 (v .columns)) []) ids e in
+    let n : names ≡ some (a .0) = is names (a .1) in
+    omega (arith, keys-length (schemas 0 (v .columns)) [] (a .0) (a .2), go (a .0) key (k .named) n)
+  where
+    is : (o : Option (List Text)) {l : List Text} → found o ConstraintViolation ≡ given l → o ≡ some l
+    is none e = absurd (never-given e)
+    is (some m) e = cc
+
+    go : (l : List Text) (key : Key) → NamedAt (v .columns) (v .constraints) key names → names ≡ some l → length l ≤ 64
+    go l Nowhere k e = let z : _≡_ {A = ℕ} 0 1 = cc in absurd (omega arith)
+    go l (Column i) k e = let z : canonical (k .column .name) ∷ [] ≡ l = cc in omega (arith, ap length z)
+    go l (Constrained j) k e = let z : map canonical (k .list) ≡ l = cc in omega (arith, ap length z, names-few v w j (k .here), length-map (k .list) canonical)
+
+-- ---- a key of a constraint, in the bytes
+
+pub record ConstraintIn (s p : List ℕ) (j : ℕ) : Type 0 where
+  pub value : CreateTable
+  pub whole : Holds create s value
+  pub marked : Bool
+  pub list : List Name
+  pub rest : List Constraint
+  pub here : drop j (value .constraints) ≡ primaryKey marked list ∷ rest
+  pub part : PartIs constraint p j (primaryKey marked list)
+
+pub constraint-in : {s p : List ℕ} {key : Key} {j : ℕ} → Is create s → KeyIn s key → key ≡ Constrained j
+    → ((v : CreateTable) → Holds create s v → Holds (listOf 2 constraint) p (v .constraints)) → ConstraintIn s p j
+constraint-in {s} {p} {key} {j} i k e g =
+    held i (λ v h.
+    let a = k .at v h in
+    let b : ByConstraint (v .constraints) j (a .0) = subst (λ (x : Key). NamedAt (v .columns) (v .constraints) x (a .0)) e (a .1 .named) in
+    record {
+      value = v;
+      whole = h;
+      marked = b .marked;
+      list = b .list;
+      rest = b .rest;
+      here = b .here;
+      part = part-at constraint p j (g v h) (b .here);
+    })
+
+-- the part itself
+pub part-holds : {s p : List ℕ} {j : ℕ} {v : Constraint} → p ≡ getD (partsOf 2 s) j [] → PartIs constraint s j v → Holds constraint p v
+part-holds e k = same constraint e (k .holds)
+
+pub part-shows : {p : List ℕ} {m : Bool} {ns : List Name} → Holds constraint p (primaryKey m ns) → Shows constraint isKey p
+part-shows {p} h = record { there = is-held {f = constraint} h .there; case = λ w k. ap isKey (held-once constraint {s = p} k h) }
+
+-- ---- how long it is
+
+ids-back : (ids : List ColumnId) → columnIds (map (λ (i : ColumnId). i .0) ids) ≡ ids
+ids-back [] = refl
+ids-back (i ∷ ids) = ap (λ (l : List ColumnId). i ∷ l) (ids-back ids)
+
+pub ids-size : (ids : List ColumnId) → length (listOf 4 (alone columnId) .write ids) ≡ 4 + 12 * length ids
+ids-size ids =
+    ap (λ (l : List ColumnId). length (listOf 4 (alone columnId) .write l)) (sym (ids-back ids)) ∙ ids-length (map (λ (i : ColumnId). i .0) ids)
+    ∙ ap (λ (n : ℕ). 4 + 12 * n) (length-map ids (λ (i : ColumnId). i .0))
+
+pub created-size : (t : Text) (cs : List ColumnDefinition) (ids : List ColumnId)
+    → length (boundStatement .write (created t (schemas 0 cs) ids)) ≡ 17 + length t + roomFor cs + (4 + 12 * length ids)
+created-size t cs ids =
+    create-table-length (record { tableName = t; columns = map (outsideNull ids) (schemas 0 cs); key = ids })
+    ∙ omega (arith, room-is ids 0 cs, ids-size ids)
+
+module _ (t : Text) (cs : List ColumnDefinition) (names : Option (List Text)) where
+  pub keyed-given : {n m : ℕ} → Counted (keyOf (schemas 0 cs) names) n → m ≡ 17 + length t + roomFor cs + (4 + 12 * n) → measured.Is m ≡ sized boundStatement (keyTable t (schemas 0 cs) names)
+  keyed-given c e =
+      sized-given boundStatement (key-joined t (schemas 0 cs) names ∙ step-on (λ ids. given (created t (schemas 0 cs) ids)) (c .gives))
+      (e ∙ ap (λ (n : ℕ). 17 + length t + roomFor cs + (4 + 12 * n)) (c .many) ∙ sym (created-size t cs (c .ids)))
+
+  pub keyed-off : {r : Refusal} → keyOf (schemas 0 cs) names ≡ refused r → measured.Refused r ≡ sized boundStatement (keyTable t (schemas 0 cs) names)
+  keyed-off e = sized-refused boundStatement (key-joined t (schemas 0 cs) names ∙ step-off (λ ids. given (created t (schemas 0 cs) ids)) e)
+
+-- ---- behind the name
+
+module _ (v : CreateTable) (t : Text) where
+  pub table-empty : isEmpty (v .columns) ≡ true → defineTable v t ≡ refuse ConstraintViolation
+  table-empty e = test-off _ _ e
+
+  module _ (a : isEmpty (v .columns) ≡ false) where
+    table-read : defineTable v t ≡ (readKey v >>= (λ p. keyTable t (p .0) (p .1)))
+    table-read = test-on _ _ a ∙ read-joined v (λ cs names. keyTable t cs names)
+
+    pub table-off : {k : Class} → readKey v ≡ refuse k → defineTable v t ≡ refuse k
+    table-off e = table-read ∙ step-off (λ p. keyTable t (p .0) (p .1)) e
+
+    pub table-on : {names : Option (List Text)} → readKey v ≡ given (readOf (schemas 0 (v .columns)) names) → defineTable v t ≡ keyTable t (schemas 0 (v .columns)) names
+    table-on e = table-read ∙ step-on (λ p. keyTable t (p .0) (p .1)) e
+
+pub columns-empty : (cs : List ColumnDefinition) → length cs ≡ 0 → isEmpty cs ≡ true
+columns-empty [] e = refl
+columns-empty (c ∷ cs) e = absurd (omega (arith, e))
+
+pub columns-there : (cs : List ColumnDefinition) → (length cs ≡ 0 → ⊥) → isEmpty cs ≡ false
+columns-there [] h = absurd (h refl)
+columns-there (c ∷ cs) h = refl
+
+pub key-in : {s : List ℕ} {r : Keyed} {key : Key} → ((v : CreateTable) → Holds create s v → ReadsKey v r) → r ≡ keyed.Is key → KeyIn s key
+key-in f e = record { at = λ v h. let k = subst (ReadsKey v) e (f v h) in (k .names, k .at) }
+
+-- ---- the whole
+
+module _ (cat : Catalogue) (v : CreateTable) where
+  pub create-exists : v .ifNotExists ≡ true → analyzeCreateTable cat v ≡ refuse UnsupportedSql
+  create-exists e = create-steps cat v ∙ test-off _ _ e
+
+  module _ (a : v .ifNotExists ≡ false) where
+    pub create-query : v .asQuery ≡ true → analyzeCreateTable cat v ≡ refuse UnsupportedSql
+    create-query e = create-steps cat v ∙ test-on _ _ a ∙ test-off _ _ e
+
+    module _ (b : v .asQuery ≡ false) where
+      pub create-feature : v .otherFeature ≡ true → analyzeCreateTable cat v ≡ refuse UnsupportedSql
+      create-feature e = create-steps cat v ∙ test-on _ _ a ∙ test-on _ _ b ∙ test-off _ _ e
+
+      module _ (c : v .otherFeature ≡ false) where
+        named : analyzeCreateTable cat v ≡ (newName cat (v .name) >>= defineTable v)
+        named = create-steps cat v ∙ test-on _ _ a ∙ test-on _ _ b ∙ test-on _ _ c
+
+        pub create-unnamed : {r : Refusal} → newName cat (v .name) ≡ refused r → analyzeCreateTable cat v ≡ refused r
+        create-unnamed e = named ∙ step-off (defineTable v) e
+
+        pub create-named : {t : Text} → newName cat (v .name) ≡ given t → analyzeCreateTable cat v ≡ defineTable v t
+        create-named e = named ∙ step-on (defineTable v) e
+
+-- a new name is short
+pub new-short : (cat : Catalogue) (o : ObjectName) {t : Text} → all Within (objectNames o) ≡ true → newName cat o ≡ given t → length t ≤ 128
+unfolding simpleName
+new-short cat qualified w e = absurd (never-given e)
+new-short cat (plain n) {t} w e = go (isSome (tableByName cat (canonical n))) e
+  where
+    go : (b : Bool) → (refuseIf b ConstraintViolation >> given (canonical n)) ≡ given t → length t ≤ 128
+    go true e = absurd (never-given e)
+    go false e = let z : canonical n ≡ t = cc in omega (arith, ap length z, canonical-length n, short-plain n w)

@@ -1,0 +1,3 @@
+pub mod Defined
+pub mod Keys
+pub mod Within

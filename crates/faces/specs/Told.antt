@@ -1,0 +1,88 @@
+-- What is told of bytes alone: the number of a refusal of paper 01, or 0 where there is none.
+-- Assumes nothing.
+use mathlib.Core.Path.{_≡_, refl, sym, ap, _∙_}
+use mathlib.Core.Bool.{Bool, false, cond, false≢true}
+use mathlib.Core.List.{List, [], _∷_}
+use mathlib.Core.Option.{Option, none, some}
+use Prim.Native.Nat.{ℕ, _≤_, _<_}
+use native.Mathlib.Omega.{arith}
+use lib.ListN.{length, drop, getD, length-drop, drop-of-length-le}
+use lib.Seq.{drop-cons}
+use Rattle.bundle.specs.Bundle.{isThere, partsOf}
+use Rattle.bundle.specs.Held.{Holds, list-count}
+use Rattle.bundle.specs.Laws.{Each, list-values}
+use Rattle.rules.specs.Tables.{TableSchema, Catalogue}
+use Rattle.rules.specs.Rows.{Row}
+use Rattle.rules.specs.Limits.{catalogueWithin}
+use Rattle.catalogue.specs.Layout.{table, catalogue}
+use Rattle.catalogue.specs.Within.{catalogue-tables}
+use Rattle.row.specs.Layout.{row}
+use Rattle.row.specs.Obeyed.{obeyed}
+
+-- 6, then 7
+abbrev pub ofCatalogue : ℕ → Option Catalogue → ℕ
+ofCatalogue size none = 6
+ofCatalogue size (some c) = cond (catalogueWithin size c) 0 7
+
+unfoldable pub toldOfCatalogue : List ℕ → ℕ
+toldOfCatalogue s = ofCatalogue (length s) (catalogue .read s)
+
+-- whether a row obeys the first of some tables, and the one of a number: no row obeys one that is not there
+abbrev pub ofFirst : Catalogue → Option Row → Bool
+ofFirst [] r = false
+ofFirst (t ∷ ts) r = obeyed t r
+
+abbrev pub ofNumber : Option Catalogue → ℕ → Option Row → Bool
+ofNumber none k r = false
+ofNumber (some c) k r = ofFirst (drop k c) r
+
+unfoldable pub toldObeys : List ℕ → List ℕ → ℕ → Bool
+toldObeys r c k = ofNumber (catalogue .read c) k (row .read r)
+
+-- ---- each number, where it is told
+
+module _ (s : List ℕ) where
+  pub no-catalogue : isThere (catalogue .read s) ≡ false → 6 ≡ toldOfCatalogue s
+  unfolding toldOfCatalogue
+  no-catalogue h = go (catalogue .read s) h
+    where
+      go : (m : Option Catalogue) → isThere m ≡ false → 6 ≡ ofCatalogue (length s) m
+      go none e = refl
+      go (some c) e = absurd (false≢true (sym e))
+
+  module _ {c : Catalogue} (h : Holds catalogue s c) where
+    pub judged-catalogue : {b : Bool} → b ≡ catalogueWithin (length s) c → cond b 0 7 ≡ toldOfCatalogue s
+    unfolding toldOfCatalogue
+    judged-catalogue e = ap (λ (t : Bool). cond t 0 7) e ∙ sym (ap (ofCatalogue (length s)) h)
+
+-- ---- a row and the table of a number
+
+module _ (r c : List ℕ) (k : ℕ) where
+  pub none-obeys : isThere (catalogue .read c) ≡ false → false ≡ toldObeys r c k
+  unfolding toldObeys
+  none-obeys h = go (catalogue .read c) h
+    where
+      go : (m : Option Catalogue) → isThere m ≡ false → false ≡ ofNumber m k (row .read r)
+      go none e = refl
+      go (some v) e = absurd (false≢true (sym e))
+
+  module _ {v : Catalogue} (h : Holds catalogue c v) where
+    by-value : ofFirst (drop k v) (row .read r) ≡ toldObeys r c k
+    unfolding toldObeys
+    by-value = sym (ap (λ (m : Option Catalogue). ofNumber m k (row .read r)) h)
+
+    pub no-table : length (partsOf 2 c) ≤ k → false ≡ toldObeys r c k
+    no-table l =
+        let past : length v ≤ k = omega (arith, list-count table c (catalogue-tables c h)) in
+        sym (ap (λ (ts : Catalogue). ofFirst ts (row .read r)) (drop-of-length-le v {i = k} past)) ∙ by-value
+
+    -- the table, its bytes, and what is told of it
+    pub the-table : k < length (partsOf 2 c) → (t : TableSchema) × (Holds table (getD (partsOf 2 c) k []) t) × (obeyed t (row .read r) ≡ toldObeys r c k)
+    the-table l = go (drop k v) refl
+      where
+        each : Each table (partsOf 2 c) v
+        each = list-values 2 table c (catalogue-tables c h)
+
+        go : (m : Catalogue) → drop k v ≡ m → (t : TableSchema) × (Holds table (getD (partsOf 2 c) k []) t) × (obeyed t (row .read r) ≡ toldObeys r c k)
+        go [] e = absurd (omega (arith, length-drop k v, ap length e, each .count))
+        go (t ∷ m) e = (getD v k t, each .value k t l, sym (ap (λ (ts : Catalogue). ofFirst ts (row .read r)) (drop-cons v k t (omega (arith, each .count)))) ∙ by-value)

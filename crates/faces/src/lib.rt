@@ -1,0 +1,57 @@
+// The readers as C calls them: a slice is a pointer and a length, and any bytes will do. Nothing is judged here that a reader below does not judge.
+ghost use mathlib.Core.Path.{_≡_};
+ghost use Rattle.bundle.specs.Bundle.{isThere};
+ghost use Rattle.statement.specs.Layout.{statement};
+ghost use Rattle.catalogue.specs.Layout.{catalogue};
+ghost use Rattle.row.specs.Layout.{row};
+ghost use Rattle.faces.specs.Told.{toldOfCatalogue, toldObeys};
+
+#[no_mangle]
+pub extern "C" fn sirklemet_is_statement(bytes: &[u8]) -> bool
+    ensures { λ r. ⌜ r ≡ isThere (statement .read (now (bytes .entry))) ⌝ }
+{
+    reader::is_statement(bytes)
+}
+
+#[no_mangle]
+pub extern "C" fn sirklemet_is_catalogue(bytes: &[u8]) -> bool
+    ensures { λ r. ⌜ r ≡ isThere (catalogue .read (now (bytes .entry))) ⌝ }
+{
+    catalogue::is_catalogue(bytes)
+}
+
+// 6: no catalogue. 7: one past a limit. 0: one that can be bound against.
+#[no_mangle]
+pub extern "C" fn sirklemet_read_catalogue(bytes: &[u8]) -> u8
+    ensures { λ r. ⌜ r ≡ toldOfCatalogue (now (bytes .entry)) ⌝ }
+{
+    if !catalogue::is_catalogue(bytes) {
+        return 6;
+    }
+    if !catalogue::catalogue_within(bytes) {
+        return 7;
+    }
+    0
+}
+
+// Of whatever table.
+#[no_mangle]
+pub extern "C" fn sirklemet_is_row(bytes: &[u8]) -> bool
+    ensures { λ r. ⌜ r ≡ isThere (row .read (now (bytes .entry))) ⌝ }
+{
+    row::is_row(bytes)
+}
+
+// Whether a row obeys the table of this number, from 0. No row obeys a table that is not there.
+#[no_mangle]
+pub extern "C" fn sirklemet_obeys(bytes: &[u8], tables: &[u8], number: usize) -> bool
+    ensures { λ r. ⌜ r ≡ toldObeys (now (bytes .entry)) (now (tables .entry)) number ⌝ }
+{
+    if !catalogue::is_catalogue(tables) {
+        return false;
+    }
+    if bundle::parts(tables, 2) <= number {
+        return false;
+    }
+    row::obeys(bytes, bundle::part(tables, 2, number))
+}

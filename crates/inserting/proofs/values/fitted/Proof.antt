@@ -1,0 +1,34 @@
+-- `values::fitted` meets its contract.
+-- Assumes nothing.
+use mathlib.Core.Path.{sym, ap, _∙_}
+use Rattle.rulings.specs.declared.Fit.{Fit}
+use Rattle.inserting.specs.Values.{fitTold}
+use borrow.Author.Needs.{needs}
+use Rattle.inserting.proofs.values.fitted.Statement.{statement}
+use Rattle.inserting.proofs.values.fitted.Tie as tie
+use Rattle.inserting.proofs.values.fitted.Reads as reads
+use Rattle.inserting.proofs.values.fitted.Lts as lts
+use Rattle.resolving.proofs.refuse.Reads as refuse-reads
+
+-- src/values.rt:58:22
+enum-told : tie.Need-enum-told
+enum-told c = search needs
+
+-- src/values.rt:59:19
+enum-known-fit : tie.Need-enum-known-fit
+enum-known-fit c = search needs
+
+-- src/values.rt:59:29
+refuse-requires : tie.Need-refuse-requires
+refuse-requires c κs = search needs
+
+-- src/values.rt:54:1
+returns : tie.Need-returns
+returns c = sym (ap (λ (f : Fit). fitTold f (c .before .before .args .n)) (c .enum-told .given .1))
+
+-- src/values.rt:54:1
+returns-2 : tie.Need-returns-2
+returns-2 c = c .refuse .ensures ∙ sym (ap (λ (f : Fit). fitTold f (c .before .before .before .before .args .n)) (c .before .before .fit .given .1))
+
+pub fitted-spec : {M : Type 1} → statement M
+fitted-spec = tie.close (tie.spec enum-told enum-known-fit refuse-requires returns returns-2)

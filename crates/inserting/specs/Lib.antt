@@ -1,0 +1,7 @@
+pub mod Coded
+pub mod Grown
+pub mod Small
+pub mod Values
+pub mod Columns
+pub mod Within
+pub mod Inserts

@@ -1,0 +1,4 @@
+pub mod Gathered
+pub mod Within
+pub mod Lists
+pub mod Cases

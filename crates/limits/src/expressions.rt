@@ -1,0 +1,29 @@
+// Expressions: their names and how deep they are.
+ghost use mathlib.Core.Path.{_≡_};
+ghost use mathlib.Core.Option.{Option};
+ghost use Rattle.bundle.specs.Held.{Is, Holds};
+ghost use Rattle.expression.specs.Expression.{expression};
+ghost use Rattle.rules.specs.Statements.{Expr};
+ghost use Rattle.statement.specs.Layout.{condition};
+ghost use Rattle.limits.specs.Within.{expressionWithin, conditionWithin};
+
+pub fn is_expression_within(e: &[u8]) -> bool
+    requires { ⌜ Is expression (now e) ⌝ }
+    ensures { λ r. ⌜ ((v : Expr) → Holds expression (now (e .entry)) v → r ≡ expressionWithin v) ⌝ }
+{
+    if !expression::names_within(e) {
+        return false;
+    }
+    expression::depth_at_most(e, expression::nodes(e) - 1, 64)
+}
+
+// A condition may be absent.
+pub fn is_condition_within(c: &[u8]) -> bool
+    requires { ⌜ Is condition (now c) ⌝ }
+    ensures { λ r. ⌜ ((v : Option Expr) → Holds condition (now (c .entry)) v → r ≡ conditionWithin v) ⌝ }
+{
+    if !statement::condition::has_condition(c) {
+        return true;
+    }
+    is_expression_within(c)
+}

@@ -1,0 +1,69 @@
+// Names, and what holds one name or none.
+use statement::names;
+use statement::table;
+ghost use mathlib.Core.Path.{_≡_};
+ghost use mathlib.Core.List.{List};
+ghost use Rattle.codec.specs.Layout.{listOf};
+ghost use Rattle.bundle.specs.Held.{Is, Holds};
+ghost use Rattle.expression.specs.Names.{Within};
+ghost use Rattle.rules.specs.Lists.{all};
+ghost use Rattle.rules.specs.Statements.{Name, ObjectName, Relation, TableWithJoins};
+ghost use Rattle.rules.specs.Limits.{objectNames, relationNames, tableNames};
+ghost use Rattle.statement.specs.Layout.{name, objectName, relation, tableWithJoins};
+ghost use Rattle.limits.specs.Within.{listWithin};
+
+pub fn is_name_within(n: &[u8]) -> bool
+    requires { ⌜ Is name (now n) ⌝ }
+    ensures { λ r. ⌜ ((v : Name) → Holds name (now (n .entry)) v → r ≡ Within v) ⌝ }
+{
+    let text = names::name_text(n);
+    text.len() <= 128
+}
+
+pub fn are_names_within(s: &[u8]) -> bool
+    requires { ⌜ Is (listOf 2 name) (now s) ⌝ }
+    ensures { λ r. ⌜ ((vs : List Name) → Holds (listOf 2 name) (now (s .entry)) vs → r ≡ listWithin 64 Within vs) ⌝ }
+{
+    let n = bundle::parts(s, 2);
+    if 64 < n {
+        return false;
+    }
+    let mut at = bundle::first(s, 2);
+    let mut i = 0;
+    while i < n {
+        let end = bundle::next(s, 2, i, at);
+        if !is_name_within(&s[at..end]) {
+            return false;
+        }
+        at = end;
+        i += 1;
+    }
+    true
+}
+
+pub fn is_object_name_within(o: &[u8]) -> bool
+    requires { ⌜ Is objectName (now o) ⌝ }
+    ensures { λ r. ⌜ ((v : ObjectName) → Holds objectName (now (o .entry)) v → r ≡ all Within (objectNames v)) ⌝ }
+{
+    if names::object_name_code(o) != 1 {
+        return true;
+    }
+    is_name_within(names::only_name(o))
+}
+
+fn is_relation_within(s: &[u8]) -> bool
+    requires { ⌜ Is relation (now s) ⌝ }
+    ensures { λ r. ⌜ ((v : Relation) → Holds relation (now (s .entry)) v → r ≡ all Within (relationNames v)) ⌝ }
+{
+    if table::relation_code(s) != 1 {
+        return true;
+    }
+    is_object_name_within(table::relation_name(s))
+}
+
+pub fn is_table_within(t: &[u8]) -> bool
+    requires { ⌜ Is tableWithJoins (now t) ⌝ }
+    ensures { λ r. ⌜ ((v : TableWithJoins) → Holds tableWithJoins (now (t .entry)) v → r ≡ all Within (tableNames v)) ⌝ }
+{
+    is_relation_within(table::relation_of(t))
+}

@@ -1,0 +1,85 @@
+// A query: the table, the items and the condition of a plain SELECT.
+use crate::expressions::is_condition_within;
+use crate::names::is_name_within;
+use crate::names::is_table_within;
+ghost use mathlib.Core.Path.{_≡_};
+ghost use mathlib.Core.List.{List};
+ghost use Rattle.codec.specs.Layout.{listOf};
+ghost use Rattle.bundle.specs.Held.{Is, Holds};
+ghost use Rattle.expression.specs.Names.{Within};
+ghost use Rattle.rules.specs.Lists.{all};
+ghost use Rattle.rules.specs.Statements.{Item, From, Select, QueryBody, Query};
+ghost use Rattle.rules.specs.Limits.{fromNames, heldBySelect, heldByBody, heldWithin};
+ghost use Rattle.statement.specs.Layout.{item, selectFrom, select, queryBody, selection};
+ghost use Rattle.limits.specs.Within.{listWithin, itemWithin};
+
+fn is_item_within(i: &[u8]) -> bool
+    requires { ⌜ Is item (now i) ⌝ }
+    ensures { λ r. ⌜ ((v : Item) → Holds item (now (i .entry)) v → r ≡ itemWithin v) ⌝ }
+{
+    if select::item_code(i) != 2 {
+        return true;
+    }
+    is_name_within(select::column_of(i))
+}
+
+fn are_items_within(s: &[u8]) -> bool
+    requires { ⌜ Is (listOf 2 item) (now s) ⌝ }
+    ensures { λ r. ⌜ ((vs : List Item) → Holds (listOf 2 item) (now (s .entry)) vs → r ≡ listWithin 64 itemWithin vs) ⌝ }
+{
+    let n = bundle::parts(s, 2);
+    if 64 < n {
+        return false;
+    }
+    let mut at = bundle::first(s, 2);
+    let mut i = 0;
+    while i < n {
+        let end = bundle::next(s, 2, i, at);
+        if !is_item_within(&s[at..end]) {
+            return false;
+        }
+        at = end;
+        i += 1;
+    }
+    true
+}
+
+fn is_from_within(f: &[u8]) -> bool
+    requires { ⌜ Is selectFrom (now f) ⌝ }
+    ensures { λ r. ⌜ ((v : From) → Holds selectFrom (now (f .entry)) v → r ≡ all Within (fromNames v)) ⌝ }
+{
+    if select::from_code(f) != 1 {
+        return true;
+    }
+    is_table_within(select::table_of(f))
+}
+
+fn is_select_within(s: &[u8]) -> bool
+    requires { ⌜ Is select (now s) ⌝ }
+    ensures { λ r. ⌜ ((v : Select) → Holds select (now (s .entry)) v → r ≡ heldWithin (heldBySelect v)) ⌝ }
+{
+    if !is_from_within(select::from_of(s)) {
+        return false;
+    }
+    if !are_items_within(select::items_of(s)) {
+        return false;
+    }
+    is_condition_within(select::condition_of(s))
+}
+
+fn is_body_within(b: &[u8]) -> bool
+    requires { ⌜ Is queryBody (now b) ⌝ }
+    ensures { λ r. ⌜ ((v : QueryBody) → Holds queryBody (now (b .entry)) v → r ≡ heldWithin (heldByBody v)) ⌝ }
+{
+    if select::body_code(b) != 1 {
+        return true;
+    }
+    is_select_within(select::select_of(b))
+}
+
+pub fn is_query_within(q: &[u8]) -> bool
+    requires { ⌜ Is selection (now q) ⌝ }
+    ensures { λ r. ⌜ ((v : Query) → Holds selection (now (q .entry)) v → r ≡ heldWithin (heldByBody (v .body))) ⌝ }
+{
+    is_body_within(select::body_of(q))
+}

@@ -1,0 +1,2 @@
+-- `Complement`: a signed number from its bits.
+mod Complement

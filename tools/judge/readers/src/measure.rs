@@ -1,0 +1,154 @@
+//! What is measured of the readers: cases of growing size, and a plain pass over the same bytes.
+
+use std::hint::black_box;
+
+use images::catalogue::{Catalogue, Column, Table};
+use images::row::Row;
+use images::statement::{
+    Delete, DeleteFrom, Expression, Insert, Name, Node, ObjectName, Source, Statement, Tree, Values,
+};
+use images::value::{ColumnType, Operator, Value};
+
+/// A function that is measured, and its symbol, by which a profiler knows it.
+#[derive(Clone, Copy)]
+pub struct Measured {
+    pub symbol: &'static str,
+    pub call: fn(&[u8]),
+}
+
+pub const IS_STATEMENT: Measured = Measured {
+    symbol: "sirklemet_is_statement",
+    call: |bytes| {
+        black_box(sirklemet::is_statement(bytes));
+    },
+};
+pub const READ_CATALOGUE: Measured = Measured {
+    symbol: "sirklemet_read_catalogue",
+    call: |bytes| {
+        black_box(sirklemet::read_catalogue(bytes));
+    },
+};
+pub const IS_ROW: Measured = Measured {
+    symbol: "sirklemet_is_row",
+    call: |bytes| {
+        black_box(sirklemet::is_row(bytes));
+    },
+};
+pub const PASS: Measured = Measured {
+    symbol: "plain_pass",
+    call: |bytes| {
+        black_box(plain_pass(bytes));
+    },
+};
+pub const ALL: [Measured; 4] = [IS_STATEMENT, READ_CATALOGUE, IS_ROW, PASS];
+
+/// The sum of all bytes.
+#[unsafe(no_mangle)]
+#[inline(never)]
+fn plain_pass(bytes: &[u8]) -> u64 {
+    bytes.iter().map(|byte| u64::from(*byte)).sum()
+}
+
+/// Bytes and the reader that takes them.
+pub struct Case {
+    pub name: String,
+    pub bytes: Vec<u8>,
+    pub reader: Measured,
+}
+
+pub fn cases() -> Vec<Case> {
+    let tables = [1, 16, 256];
+    let columns = [1, 16, 64];
+    let grown = tables.iter().flat_map(|tables| columns.iter().map(|columns| grown_catalogue(*tables, *columns)));
+    let sizes = [100, 1_000, 10_000, 65_536];
+    let inserts = sizes.iter().map(|size| statement("INSERT", *size, insert));
+    let runs = sizes.iter().map(|size| statement("DELETE, one run of nodes", *size, long_condition));
+    let texts = sizes.iter().map(|size| statement("raw text, ASCII", *size, |length| text("a", length)));
+    let others = sizes.iter().map(|size| statement("raw text, 2 bytes a character", *size, |length| text("é", length)));
+    let rows = [4, 64, 1_024].into_iter().map(row);
+    grown.chain([long_names()]).chain(rows).chain(inserts).chain(runs).chain(texts).chain(others).collect()
+}
+
+fn column(number: usize) -> Column {
+    let data_type = ColumnType::ALL[number % 3];
+    Column { id: number as u64 + 1, data_type, nullable: number > 0, name: format!("column_{number}") }
+}
+
+fn table(number: usize, name: String, columns: usize) -> Table {
+    Table { id: number as u64, version: 1, tablets: 1, name, columns: (0..columns).map(column).collect(), key: vec![1] }
+}
+
+fn catalogue_case(name: String, tables: Vec<Table>) -> Case {
+    let bytes = Catalogue { tables }.encode().expect("a sound catalogue of this size has an image");
+    Case { name, bytes, reader: READ_CATALOGUE }
+}
+
+fn grown_catalogue(tables: usize, columns: usize) -> Case {
+    let name = format!("catalogue, {tables} x {columns}");
+    catalogue_case(name, (0..tables).map(|number| table(number, format!("table_{number}"), columns)).collect())
+}
+
+/// The dearest names for the search for repeats that the limits allow: long, and alike but for their end.
+fn long_names() -> Case {
+    let named = |number: usize| table(number, format!("{}{number:03}", "n".repeat(125)), 1);
+    catalogue_case("catalogue, 256 x 1, long names".to_string(), (0..256).map(named).collect())
+}
+
+/// A row of INT, TEXT, BOOL and NULL in turn.
+fn row(values: usize) -> Case {
+    let kinds = [Value::Int(41), Value::Text("A-100".to_string()), Value::Bool(true), Value::Null];
+    let row = Row { values: kinds.into_iter().cycle().take(values).collect() };
+    let bytes = row.encode().expect("a row of this size has an image");
+    Case { name: format!("row, {values} values"), bytes, reader: IS_ROW }
+}
+
+/// The largest statement that `make` makes within so many bytes.
+fn statement(name: &str, size: usize, make: impl Fn(usize) -> Statement) -> Case {
+    let image = |parts: usize| make(parts).encode().ok().filter(|image| image.len() <= size);
+    let (mut least, mut past) = (1, size);
+    while past - least > 1 {
+        let middle = (least + past) / 2;
+        if image(middle).is_some() { least = middle } else { past = middle }
+    }
+    let bytes = image(least).expect("one part has room");
+    Case { name: name.to_string(), bytes, reader: IS_STATEMENT }
+}
+
+fn named(name: &str) -> ObjectName {
+    ObjectName::One(Name::unquoted(name))
+}
+
+fn insert(rows: usize) -> Statement {
+    let number = |text: &str| Expression::leaf(Node::Number(text.to_string()));
+    let row =
+        vec![number("1"), number("23"), Expression::leaf(Node::Text("abc".to_string())), Expression::leaf(Node::True)];
+    let values = Values { explicit_row: false, rows: vec![row; rows] };
+    let source = Some(Source { clauses: false, values: Some(values) });
+    let tree = Tree::Insert(Insert { features: false, table: named("runs"), columns: Vec::new(), source });
+    Statement { raw: String::new(), tree }
+}
+
+/// As flat as can be, so that its depth is within the limit.
+fn long_condition(leaves: usize) -> Statement {
+    let delete = Delete {
+        tables: false,
+        using: false,
+        returning: false,
+        order_by: false,
+        limit: false,
+        from: DeleteFrom::NotOne,
+        condition: Some(flat(leaves)),
+    };
+    Statement { raw: String::new(), tree: Tree::Delete(delete) }
+}
+
+fn flat(leaves: usize) -> Expression {
+    if leaves == 1 {
+        return Expression::leaf(Node::Name(Name::unquoted("ok")));
+    }
+    Expression::binary(Node::Binary(Operator::And), flat(leaves / 2), flat(leaves - leaves / 2))
+}
+
+fn text(character: &str, times: usize) -> Statement {
+    Statement { raw: character.repeat(times), tree: Tree::Other }
+}
