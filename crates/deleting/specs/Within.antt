@@ -10,7 +10,7 @@ use Rattle.catalogue.specs.Layout.{table, catalogue}
 use Rattle.catalogue.specs.Within.{catalogue-tables}
 use Rattle.delete.specs.Held.{deleteFromNo}
 use Rattle.expression.specs.Names.{Within}
-use Rattle.filtering.specs.Short.{ShortCondition, conditionNames, short-condition}
+use Rattle.filtering.specs.There.{ShortCondition, conditionNames, condition-within}
 use Rattle.resolving.specs.Short.{ShortTable, short-table, all-back, held-within, delete-short}
 use Rattle.rules.specs.Limits.{gather, ifThere, expressionNames, deleteNames, heldByDelete, heldWithin}
 use Rattle.rules.specs.Lists.{all}
@@ -34,7 +34,7 @@ condition-short v w =
     all-back Within (deleteNames (v .from)) (gather expressionNames (ifThere (v .condition))) (held-within (heldByDelete v) w .names)
 
 pub delete-condition : {d : List ℕ} (p : List ℕ) → DeleteWithin d → ((v : Delete) → Holds deletion d v → Holds condition p (v .condition)) → ShortCondition p
-delete-condition p w k = held (w .is) (λ v h. short-condition p (k v h) (condition-short v (w .within v h)))
+delete-condition p w k = held (w .is) (λ v h. condition-within p (k v h) (condition-short v (w .within v h)))
 
 -- ---- its table
 

@@ -23,7 +23,7 @@ ghost use Rattle.codec.specs.Layout.{listOf};
 ghost use Rattle.bundle.specs.Held.{Is, Holds};
 ghost use Rattle.bound.specs.Layout.{boundStatement};
 ghost use Rattle.catalogue.specs.Layout.{table, catalogue};
-ghost use Rattle.filtering.specs.Short.{ShortCondition};
+ghost use Rattle.filtering.specs.There.{ShortCondition};
 ghost use Rattle.resolving.specs.declared.Resolved.the-variants as resolved;
 ghost use Rattle.resolving.specs.Steps.{classed};
 ghost use Rattle.resolving.specs.Told.{sized, ResolvedAs};

@@ -1,3 +1,4 @@
-pub mod Expressions
-pub mod Filters
+pub mod Fits
 pub mod Short
+pub mod There
+pub mod Filters

@@ -1,59 +1,73 @@
--- A condition whose names are within the limit: what it is where the code has seen whether it is there.
+-- Expressions with names within the limit, as the code wants them, and lengths that no sum of a statement's parts lets wrap.
 -- Assumes nothing.
-use mathlib.Core.Path.{_≡_, refl, sym, ap, _∙_}
-use mathlib.Core.Bool.{Bool, true, false, true≢false, false≢true}
-use mathlib.Core.List.{List, []}
-use mathlib.Core.Option.{Option, none, some}
-use Prim.Native.Nat.{ℕ}
+use mathlib.Core.Path.{_≡_, sym, ap, _∙_, subst}
+use mathlib.Core.Bool.{true}
+use mathlib.Core.List.{List}
+use mathlib.Core.Option.{some}
+use Prim.Native.Nat.{ℕ, _≤_}
+use native.Mathlib.Omega.{arith}
+use lib.ListN.{getD}
+use mir.Syntax.{w8}
+use mir.Val.{Fits}
 use Rattle.wire.specs.Le.{Bytes}
-use Rattle.bundle.specs.Bundle.{isThere}
 use Rattle.bundle.specs.Held.{Is, Holds, is-held, held, held-once}
+use Rattle.catalogue.specs.Layout.{table}
 use Rattle.expression.specs.Expression.{expression}
 use Rattle.expression.specs.Names.{Within}
-use Rattle.marking.specs.Marks.{NamesWithin}
-use Rattle.resolving.specs.Short.{all-front}
-use Rattle.rules.specs.Limits.{gather, ifThere, expressionNames}
-use Rattle.rules.specs.Lists.{all}
-use Rattle.rules.specs.Statements.{Expr}
 use Rattle.statement.specs.Layout.{condition}
 use Rattle.statement.specs.NamesHeld.{condition-holds}
-use Rattle.filtering.specs.Filters.{filter-names}
+use Rattle.marking.specs.declared.Sized.{Sized}
+use Rattle.marking.specs.declared.Sized.the-variants as size
+use Rattle.marking.specs.Marks.{NamesWithin, Sizes, sized-is}
+use Rattle.marking.specs.Names.{names-within}
+use Rattle.marking.specs.Small.{short-run}
+use Rattle.resolving.specs.declared.Measured.{Measured}
+use Rattle.resolving.specs.declared.Measured.the-variants as measured
+use Rattle.rules.specs.declared.Mark.{Mark}
+use Rattle.rules.specs.declared.Refusal.{Refusal}
+use Rattle.rules.specs.Limits.{expressionNames}
+use Rattle.rules.specs.Lists.{all}
+use Rattle.rules.specs.Statements.{Expr}
 
--- the names of a condition, if it is there
-abbrev pub conditionNames : Option Expr → Bool
-conditionNames o = all Within (gather expressionNames (ifThere o))
+-- what a slice's rule says of its elements
+pub known : {s : List ℕ} → ((j : ℕ) → Fits w8 (getD s j 0)) → Bytes s
+known h = record { at = λ j. h j .fits }
 
-pub record ShortCondition (e : List ℕ) : Type 0 where
-  pub is : Is condition e
-  pub short : (o : Option Expr) → Holds condition e o → conditionNames o ≡ true
+-- ---- an expression with short names
 
--- a condition that is there
-pub record There (e : List ℕ) : Type 0 where
-  pub value : Expr
-  pub holds : Holds condition e (some value)
+pub record ShortExpression (s : List ℕ) : Type 0 where
+  pub is : Is expression s
+  pub short : (x : Expr) → Holds expression s x → all Within (expressionNames x) ≡ true
 
-pub short-condition : (e : List ℕ) {o : Option Expr} → Holds condition e o → conditionNames o ≡ true → ShortCondition e
-short-condition e h n = record { is = is-held {f = condition} {s = e} h; short = λ o k. ap conditionNames (held-once condition {s = e} k h) ∙ n }
+pub short-expression : {s : List ℕ} {x : Expr} → Holds expression s x → all Within (expressionNames x) ≡ true → ShortExpression s
+short-expression {x = x} h e = record {
+  is = is-held {f = expression} h;
+  short = λ y k. ap (λ (z : Expr). all Within (expressionNames z)) (held-once expression k h) ∙ e;
+}
 
--- by what the code has seen
-module _ (e : List ℕ) {b : Bool} (k : (o : Option Expr) → Holds condition e o → b ≡ isThere o) where
-  pub absent : b ≡ false → (o : Option Expr) → Holds condition e o → o ≡ none
-  absent f none h = refl
-  absent f (some x) h = absurd (true≢false (sym (k (some x) h) ∙ f))
+-- and so a condition's
+pub short-condition : {s : List ℕ} {x : Expr} → Holds condition s (some x) → all Within (expressionNames x) ≡ true → ShortExpression s
+short-condition {s} {x} h e = short-expression (condition-holds s x h) e
 
-  pub present : Is condition e → b ≡ true → There e
-  present i t = held {f = condition} {s = e} i go
-    where
-      go : (o : Option Expr) → Holds condition e o → There e
-      go none h = absurd (false≢true (sym (k none h) ∙ t))
-      go (some x) h = record { value = x; holds = h }
+-- as the marker wants them
+pub short-names : {s : List ℕ} → Bytes s → ShortExpression s → NamesWithin s
+short-names b h = held (h .is) (λ x k. names-within b k (h .short x k))
 
-module _ {e : List ℕ} (w : There e) where
-  pub there-is : (o : Option Expr) → Holds condition e o → o ≡ some (w .value)
-  there-is o h = held-once condition {s = e} h (w .holds)
+-- ---- a length of at most n bytes, if it is one
 
-  pub there-reads : Holds expression e (w .value)
-  there-reads = condition-holds e (w .value) (w .holds)
+abbrev pub AtMost : ℕ → Measured → Type 0
+AtMost n (measured.Is k) = k ≤ n
+AtMost n (measured.Refused r) = Unit {0}
 
-  pub there-names : Bytes e → ShortCondition e → NamesWithin e
-  there-names b s = filter-names b (w .holds) (all-front Within (expressionNames (w .value)) [] (s .short (some (w .value)) (w .holds)))
+pub at-most : {n k : ℕ} {m : Measured} → AtMost n m → m ≡ measured.Is k → k ≤ n
+at-most {n} h e = subst (AtMost n) e h
+
+pub at-most-off : (n : ℕ) {m : Measured} {r : Refusal} → m ≡ measured.Refused r → AtMost n m
+at-most-off n e = subst (AtMost n) (sym e) tt
+
+-- what the marker measures fits 4 bytes
+pub size-few : (t e : List ℕ) {r : Sized} {m : Mark} {n : ℕ} → Bytes e → Is table t → ShortExpression e → Sizes t e r → r ≡ size.Is m n → n ≤ 4294967295
+size-few t e b i s h q =
+    held i (λ v k. held (s .is) (λ x g.
+    let w = sized-is t e k g h q in
+    omega (arith, short-run b (short-names b s) g v (w .1), w .3)))

@@ -10,16 +10,17 @@ ghost use Rattle.bundle.specs.Held.{Is, Holds};
 ghost use Rattle.bound.specs.Expression.{boundExpression};
 ghost use Rattle.catalogue.specs.Layout.{table};
 ghost use Rattle.expression.specs.Expression.{expression};
-ghost use Rattle.marking.specs.Marks.{NamesWithin};
 ghost use Rattle.resolving.specs.Told.{sized};
 ghost use Rattle.rules.specs.Fits.{bindBooleanFilter};
 ghost use Rattle.rules.specs.Statements.{Expr};
 ghost use Rattle.rules.specs.Tables.{TableSchema};
+ghost use Rattle.filtering.specs.Short.{ShortExpression, AtMost};
 
 // How long the image of a condition over the table t is, which must be BOOL.
 pub fn filter_size(t: &[u8], e: &[u8]) -> Measured
-    requires { ⌜ Is table (now t) × (Is expression (now e) × NamesWithin (now e)) ⌝ }
-    ensures { λ r. ⌜ ((v : TableSchema) (x : Expr) → Holds table (now (t .entry)) v → Holds expression (now (e .entry)) x
+    requires { ⌜ Is table (now t) × ShortExpression (now e) ⌝ }
+    ensures few { λ r. ⌜ AtMost 4294967295 r ⌝ }
+    ensures told { λ r. ⌜ ((v : TableSchema) (x : Expr) → Holds table (now (t .entry)) v → Holds expression (now (e .entry)) x
         → r ≡ sized boundExpression (bindBooleanFilter v x)) ⌝ }
 {
     match expression_size(t, e) {

@@ -2,31 +2,22 @@
 -- Assumes nothing.
 use mathlib.Core.Path.{_≡_, refl, sym, ap, ap₂, _∙_}
 use mathlib.Core.Bool.{Bool, true, false, _||_, or-true}
-use mathlib.Core.List.{List, [], _∷_, _++_, map}
+use mathlib.Core.List.{List, [], _∷_, map}
 use mathlib.Core.Option.{Option}
 use Prim.Native.Nat.{ℕ, zero, suc, _+_, _-_, _≤_, _<_}
-use native.Mathlib.Numerals.{add-one}
 use native.Mathlib.Omega.{arith}
-use lib.ListN.{length, take, drop, drop-of-length-le}
+use lib.ListN.{length, take, drop, length-map}
 use Rattle.codec.specs.Layout.{listOf}
 use Rattle.bundle.specs.Bundle.{Stepped}
 use Rattle.bundle.specs.Decides.{and-of}
-use Rattle.bundle.specs.Held.{Holds, Along, turn, part-is, held, held-once, list-count, same}
+use Rattle.bundle.specs.Held.{Holds, Along, Turn, turn, part-is, held, held-once, list-count, same}
 use Rattle.rules.specs.Lists.{Text, any, all}
 use Rattle.repeats.specs.declared.Repeat.the-variants.{Nowhere, At}
 use Rattle.repeats.specs.declared.Of.{Of}
-use Rattle.repeats.specs.Repeats.{alike, repeating, firstRepeated, any-last, repeat-hit, repeat-pass, repeat-end}
+use Rattle.repeats.specs.Repeats.{alike, any-last, take-next, drop-map, Reached, reached-none, reached-hit, reached-on, reached-end}
 use Rattle.repeats.specs.Entries.{Entry, form, nameIn, entry, shortName, ShortIn, AllShort, Compares, FindsRepeat}
 
 module _ {A : Type 0} where
-  take-next : (i : ℕ) (l : List A) (x : A) (m : List A) → drop i l ≡ x ∷ m → take (i + 1) l ≡ take i l ++ (x ∷ [])
-  take-next i l x m e = ap (λ (k : ℕ). take k l) (add-one i) ∙ go i l e
-    where
-      go : (i : ℕ) (l : List A) → drop i l ≡ x ∷ m → take (suc i) l ≡ take i l ++ (x ∷ [])
-      go zero l e = ap (take 1) e
-      go (suc i) [] e = absurd (omega (arith, ap length e))
-      go (suc i) (y ∷ l) e = ap (λ (k : List A). y ∷ k) (go i l e)
-
   any-take : (p : A → Bool) (j i : ℕ) (l : List A) (x : A) (m : List A) → drop j l ≡ x ∷ m → j < i → p x ≡ true → any p (take i l) ≡ true
   any-take p j zero l x m e h q = absurd (omega arith)
   any-take p zero (suc i) l x m e h q = ap (λ (k : List A). any p (take (suc i) k)) e ∙ ap (λ (b : Bool). b || any p (take i m)) q
@@ -49,21 +40,24 @@ module _ {o : Of} {s : List ℕ} where
         all-turn (λ w. shortName (nameIn o w)) i vs v (drop (i + 1) vs) (a .short vs k) (t .rest ∙ ap (λ (w : Entry o). w ∷ drop (i + 1) vs) (held-once (form o) (t .holds) h)));
   }
 
--- a search that has reached entry i and found no repeat
-pub record Reached (o : Of) (i : ℕ) (vs : List (Entry o)) : Type 0 where
-  pub before : List (Option Text)
-  pub is : firstRepeated (map (entry o) vs) ≡ repeating i before (map (entry o) (drop i vs))
-  pub same : (p : Option Text → Bool) → any p before ≡ any (λ w. p (entry o w)) (take i vs)
+-- the names of the entries
+abbrev names : (o : Of) → List (Entry o) → List (Option Text)
+names o vs = map (entry o) vs
 
+-- the turn of entry i, by the names
+turned : (o : Of) {s : List ℕ} {vs : List (Entry o)} {i at e : ℕ} (t : Turn (form o) s vs i at e) → drop i (names o vs) ≡ entry o (t .value) ∷ names o (drop (i + 1) vs)
+turned o {vs = vs} {i = i} t = drop-map (entry o) i vs ∙ ap (names o) (t .rest)
+
+-- a search that has reached entry i and found no repeat
 pub record Searching (o : Of) (s : List ℕ) (i : ℕ) : Type 0 where
-  pub at : (vs : List (Entry o)) → Holds (listOf 2 (form o)) s vs → Reached o i vs
+  pub at : (vs : List (Entry o)) → Holds (listOf 2 (form o)) s vs → Reached (names o vs) i
 
 pub searching : {o : Of} {s : List ℕ} → Searching o s 0
-searching = record { at = λ vs h. record { before = []; is = refl; same = λ p. refl } }
+searching {o} = record { at = λ vs h. reached-none (names o vs) }
 
 -- the entry in p is like none of the first j
 pub record LikeNone (o : Of) (s p : List ℕ) (j : ℕ) : Type 0 where
-  pub is : (v : Entry o) → Holds (form o) p v → (vs : List (Entry o)) → Holds (listOf 2 (form o)) s vs → any (λ w. alike (entry o v) (entry o w)) (take j vs) ≡ false
+  pub is : (v : Entry o) → Holds (form o) p v → (vs : List (Entry o)) → Holds (listOf 2 (form o)) s vs → any (alike (entry o v)) (take j (names o vs)) ≡ false
 
 pub like-none : {o : Of} {s p : List ℕ} → LikeNone o s p 0
 like-none = record { is = λ v h vs k. refl }
@@ -73,8 +67,7 @@ module _ {o : Of} {s p : List ℕ} {j from to : ℕ} (d : Stepped 2 s j from to)
   like-none-on l e = record {
     is = λ v h vs k.
         let t = turn d k in
-        ap (any (λ w. alike (entry o v) (entry o w))) (take-next j vs (t .value) (drop (j + 1) vs) (t .rest))
-        ∙ any-last (λ w. alike (entry o v) (entry o w)) (take j vs) (t .value)
+        ap (any (alike (entry o v))) (take-next j (names o vs) (turned o t)) ∙ any-last (alike (entry o v)) (take j (names o vs)) (entry o (t .value))
         ∙ ap₂ (λ (a b : Bool). a || b) (sym (c v (t .value) h (t .holds)) ∙ e) (l .is v h vs k);
   }
 
@@ -83,11 +76,8 @@ module _ {o : Of} {s p : List ℕ} {j from to : ℕ} (d : Stepped 2 s j from to)
   repeat-found {i} f g q l e vs k =
       let t = turn g k in
       let u = turn d k in
-      let b = f .at vs k in
-      sym (b .is ∙ ap (λ (m : List (Entry o)). repeating i (b .before) (map (entry o) m)) (t .rest)
-      ∙ repeat-hit i (b .before) (entry o (t .value)) (map (entry o) (drop (i + 1) vs))
-      (b .same (alike (entry o (t .value)))
-      ∙ any-take (λ w. alike (entry o (t .value)) (entry o w)) j i vs (u .value) (drop (j + 1) vs) (u .rest) l (sym (c (t .value) (u .value) (same (form o) q (t .holds)) (u .holds)) ∙ e)))
+      let found : alike (entry o (t .value)) (entry o (u .value)) ≡ true = sym (c (t .value) (u .value) (same (form o) q (t .holds)) (u .holds)) ∙ e in
+      sym (reached-hit (f .at vs k) (turned o t) (any-take (alike (entry o (t .value))) j i (names o vs) (entry o (u .value)) (names o (drop (j + 1) vs)) (turned o u) l found))
 
 module _ {o : Of} {s : List ℕ} {i : ℕ} (f : Searching o s i) where
   -- entry i is like none before it
@@ -95,20 +85,10 @@ module _ {o : Of} {s : List ℕ} {i : ℕ} (f : Searching o s i) where
   searching-on {at} {e} {j} d l q = record {
     at = λ vs k.
         let t = turn d k in
-        let b = f .at vs k in
-        let none : any (λ w. alike (entry o (t .value)) (entry o w)) (take i vs) ≡ false = ap (λ (n : ℕ). any (λ w. alike (entry o (t .value)) (entry o w)) (take n vs)) (sym q) ∙ l .is (t .value) (t .holds) vs k in
-        record {
-          before = entry o (t .value) ∷ b .before;
-          is = b .is ∙ ap (λ (m : List (Entry o)). repeating i (b .before) (map (entry o) m)) (t .rest)
-              ∙ repeat-pass i (b .before) (entry o (t .value)) (map (entry o) (drop (i + 1) vs)) (b .same (alike (entry o (t .value))) ∙ none);
-          same = λ p. ap (λ (a : Bool). p (entry o (t .value)) || a) (b .same p)
-              ∙ sym (any-last (λ w. p (entry o w)) (take i vs) (t .value))
-              ∙ ap (any (λ w. p (entry o w))) (sym (take-next i vs (t .value) (drop (i + 1) vs) (t .rest)));
-        };
+        reached-on (f .at vs k) (turned o t) (ap (λ (n : ℕ). any (alike (entry o (t .value))) (take n (names o vs))) (sym q) ∙ l .is (t .value) (t .holds) vs k);
   }
 
   pub no-repeat : {n at : ℕ} → Along s n i at → n ≤ i → FindsRepeat o s Nowhere
   no-repeat a l vs k =
-      let b = f .at vs k in
-      let z : length vs ≤ i = omega (arith, a .count, list-count (form o) s k) in
-      sym (b .is ∙ ap (λ (m : List (Entry o)). repeating i (b .before) (map (entry o) m)) (drop-of-length-le vs {i = i} z) ∙ repeat-end i (b .before))
+      let z : length (names o vs) ≤ i = omega (arith, a .count, list-count (form o) s k, length-map vs (entry o)) in
+      sym (reached-end (f .at vs k) z)

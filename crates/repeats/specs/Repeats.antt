@@ -8,7 +8,7 @@ use Prim.Native.Nat.{ℕ, zero, suc, _+_, _≤_, _<_}
 use native.Mathlib.Numerals.{add-one}
 use native.Mathlib.Omega.{arith}
 use lib.Dec.{eqb}
-use lib.ListN.{length, take, drop}
+use lib.ListN.{length, take, drop, drop-of-length-le}
 use borrow.Author.Tests.{eq-eqb, ne-eqb}
 use Rattle.rules.specs.Lists.{Text, same, any}
 use Rattle.repeats.specs.declared.Repeat.{Repeat}
@@ -85,3 +85,66 @@ module _ {A : Type 0} (p : A → Bool) where
 pub any-plain : (x : Text) (l : List Text) → any (alike (some x)) (map some l) ≡ any (same x) l
 any-plain x [] = refl
 any-plain x (y ∷ l) = ap (λ (b : Bool). same x y || b) (any-plain x l)
+
+-- ---- lists, one entry further
+
+module _ {A : Type 0} where
+  pub take-next : (i : ℕ) (l : List A) {x : A} {m : List A} → drop i l ≡ x ∷ m → take (i + 1) l ≡ take i l ++ (x ∷ [])
+  take-next i l {x} {m} e = ap (λ (k : ℕ). take k l) (add-one i) ∙ go i l e
+    where
+      go : (i : ℕ) (l : List A) → drop i l ≡ x ∷ m → take (suc i) l ≡ take i l ++ (x ∷ [])
+      go zero l e = ap (take 1) e
+      go (suc i) [] e = absurd (omega (arith, ap length e))
+      go (suc i) (y ∷ l) e = ap (λ (k : List A). y ∷ k) (go i l e)
+
+  pub drop-next : (i : ℕ) (l : List A) {x : A} {m : List A} → drop i l ≡ x ∷ m → drop (i + 1) l ≡ m
+  drop-next i l {x} {m} e = ap (λ (k : ℕ). drop k l) (add-one i) ∙ go i l e
+    where
+      go : (i : ℕ) (l : List A) → drop i l ≡ x ∷ m → drop (suc i) l ≡ m
+      go zero l e = ap (drop 1) e
+      go (suc i) [] e = absurd (omega (arith, ap length e))
+      go (suc i) (y ∷ l) e = go i l e
+
+module _ {A B : Type 0} (f : A → B) where
+  pub drop-map : (i : ℕ) (l : List A) → drop i (map f l) ≡ map f (drop i l)
+  drop-map zero l = refl
+  drop-map (suc i) [] = refl
+  drop-map (suc i) (x ∷ l) = drop-map i l
+
+  pub take-map : (i : ℕ) (l : List A) → take i (map f l) ≡ map f (take i l)
+  take-map zero l = refl
+  take-map (suc i) [] = refl
+  take-map (suc i) (x ∷ l) = ap (λ (k : List B). f x ∷ k) (take-map i l)
+
+-- ---- a loop over the entries that knows the place: how far it has come
+
+-- it has reached entry i, and none before repeats an earlier one
+pub record Reached (l : List (Option Text)) (i : ℕ) : Type 0 where
+  pub before : List (Option Text)
+  pub is : firstRepeated l ≡ repeating i before (drop i l)
+  pub same : (p : Option Text → Bool) → any p before ≡ any p (take i l)
+
+pub reached-none : (l : List (Option Text)) → Reached l 0
+reached-none l = record { before = []; is = refl; same = λ p. refl }
+
+module _ {l : List (Option Text)} {i : ℕ} (r : Reached l i) {x : Option Text} {m : List (Option Text)} (d : drop i l ≡ x ∷ m) where
+  -- whether the place is entry i: whether the entry repeats one before it
+  pub reached-turn : isAt i (firstRepeated l) ≡ any (alike x) (take i l)
+  reached-turn =
+      ap (isAt i) (r .is ∙ ap (repeating i (r .before)) d) ∙ repeat-turn i (r .before) x m ∙ r .same (alike x)
+
+  pub reached-hit : any (alike x) (take i l) ≡ true → firstRepeated l ≡ At i
+  reached-hit e = r .is ∙ ap (repeating i (r .before)) d ∙ repeat-hit i (r .before) x m (r .same (alike x) ∙ e)
+
+  pub reached-on : any (alike x) (take i l) ≡ false → Reached l (i + 1)
+  reached-on e = record {
+    before = x ∷ r .before;
+    is =
+        r .is ∙ ap (repeating i (r .before)) d ∙ repeat-pass i (r .before) x m (r .same (alike x) ∙ e)
+        ∙ ap (repeating (i + 1) (x ∷ r .before)) (sym (drop-next i l d));
+    same = λ p. ap (λ (b : Bool). p x || b) (r .same p) ∙ sym (any-last p (take i l) x) ∙ ap (any p) (sym (take-next i l d));
+  }
+
+-- it has reached the end
+pub reached-end : {l : List (Option Text)} {i : ℕ} → Reached l i → length l ≤ i → firstRepeated l ≡ Nowhere
+reached-end {l} {i} r h = r .is ∙ ap (repeating i (r .before)) (drop-of-length-le l {i = i} h) ∙ repeat-end i (r .before)

@@ -3,14 +3,10 @@
 use mathlib.Core.Path.{_∙_}
 use native.Mathlib.Omega.{arith}
 use borrow.Author.Tests.{not-true, not-false}
-use Rattle.wire.specs.Le.{Bytes}
-use Rattle.bundle.specs.Held.{is-held, held}
 use Rattle.bound.specs.Expression.{boundExpression}
 use Rattle.bound.specs.Layout.{boundStatement}
-use Rattle.expression.specs.Expression.{expression}
-use Rattle.filtering.specs.Filters.{filter-small}
-use Rattle.filtering.specs.Short.{There, absent, present, there-is, there-reads, there-names}
-use Rattle.referring.specs.Small.{known}
+use Rattle.filtering.specs.Short.{at-most}
+use Rattle.filtering.specs.There.{There, absent, present, there-is, there-reads, there-short}
 use Rattle.resolving.specs.Steps.{sized-given, sized-refused, sized-is, sized-off}
 use Rattle.deleting.specs.Deletes.{no-condition, unfiltered, filtered, deleted-length}
 use borrow.Author.Needs.{needs}
@@ -35,7 +31,7 @@ returns c = λ v o hv h.
 filter-size-requires : tie.Need-filter-size-requires
 filter-size-requires c κs =
     let p = c .before .before .before .before .pre in
-    (p .0, (is-held {f = expression} (there-reads (there c)), there-names (there c) (known (c .before .before .shared-slice-known2 .given)) (p .1)))
+    (p .0, there-short (there c) (p .1))
 
 enum-known-n : tie.Need-enum-known-n
 enum-known-n c = search needs
@@ -48,12 +44,7 @@ add-t11 c = search needs
 
 add-t12 : tie.Need-add-t12
 add-t12 c =
-    let i = c .before .before .before .before .before in
-    let p = i .before .before .before .before .pre in
-    let b : Bytes (i .before .before .before .before .args .e .now) = known (i .before .before .shared-slice-known2 .given) in
-    held (p .0) (λ v h.
-    let s = sized-is boundExpression (c .before .before .before .before .filter-size .ensures v (there i .value) h (there-reads (there i))) (c .before .before .n .given .1) in
-    omega (arith, c .table-size .ensures .0, s .long, filter-small b (there i .holds) (there-names (there i) b (p .1)) v (s .gives)))
+    omega (arith, c .table-size .ensures .0, at-most (c .before .before .before .before .filter-size .ensures .0) (c .before .before .n .given .1))
 
 enum-known-r : tie.Need-enum-known-r
 enum-known-r c = search needs
@@ -61,14 +52,14 @@ enum-known-r c = search needs
 returns-2 : tie.Need-returns-2
 returns-2 c = λ v o hv h.
     let w = there (c .before .before .before .before .before) in
-    let s = sized-is boundExpression (c .before .before .before .before .filter-size .ensures v (w .value) hv (there-reads w)) (c .before .before .n .given .1) in
+    let s = sized-is boundExpression (c .before .before .before .before .filter-size .ensures .1 v (w .value) hv (there-reads w)) (c .before .before .n .given .1) in
     sized-given boundStatement (filtered v o (there-is w o h) (s .gives)) (deleted-length v (s .value) (c .table-size .ensures .1 v hv) (s .long))
 
 returns-3 : tie.Need-returns-3
 returns-3 c = λ v o hv h.
     let w = there (c .before .before .before .before) in
     sized-refused boundStatement
-    (unfiltered v o (there-is w o h) (sized-off boundExpression (c .before .before .before .filter-size .ensures v (w .value) hv (there-reads w)) (c .before .r .given .1)))
+    (unfiltered v o (there-is w o h) (sized-off boundExpression (c .before .before .before .filter-size .ensures .1 v (w .value) hv (there-reads w)) (c .before .r .given .1)))
 
 pub delete-size-spec : {M : Type 1} → statement M
 delete-size-spec =
