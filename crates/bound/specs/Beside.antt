@@ -30,6 +30,10 @@ sets-apart o i [] j y h = refl
 sets-apart o i (a ∷ x) j y h =
     ap (λ (l : List ℕ). sets l (suc i) x) (set-apart o i a j y (omega arith)) ∙ sets-apart (set o i a) (suc i) x j y (omega arith)
 
+-- nothing is longer than it was
+pub wrote-long : {o o′ x : List ℕ} {i j : ℕ} → Wrote o i x j o′ → length o′ ≡ length o
+wrote-long {o} {x = x} {i = i} w = ap length (w .is) ∙ length-sets o i x
+
 -- a write in front of what was written first
 pub in-front : {o o₁ o₂ h x : List ℕ} {i j k : ℕ} → Wrote o j x k o₁ → Wrote o₁ i h j o₂ → Wrote o i (h ++ x) k o₂
 in-front {o} {h = h} {x = x} {i = i} {j = j} p q = record {
@@ -67,7 +71,6 @@ pub record Beside (o : List ℕ) (i : ℕ) (x : List ℕ) (k j : ℕ) (y : List 
 pub beside-none : (o : List ℕ) (i j : ℕ) → i ≤ j → Beside o i [] i j [] j o
 beside-none o i j h = record { end = omega arith; far = omega arith; apart = h; is = refl }
 
--- nothing is longer than it was
 pub beside-long : {o o₁ x y : List ℕ} {i j k l : ℕ} → Beside o i x k j y l o₁ → length o₁ ≡ length o
 beside-long {o} {x = x} {y = y} {i = i} {j = j} b = ap length (b .is) ∙ length-sets (sets o i x) j y ∙ length-sets o i x
 

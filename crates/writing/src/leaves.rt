@@ -1,0 +1,89 @@
+// The contents of leaves: column references and values.
+use crate::Leaf;
+use crate::columns::put_found;
+use bound::values::put_bool;
+use bound::values::put_int;
+use bound::values::put_null;
+use bound::values::put_text;
+use catalogue::Named;
+use catalogue::find_column;
+use catalogue::table_id;
+use expression::text;
+use numbers::Literal;
+use numbers::integer_literal;
+use rules::ExpressionType;
+use rules::Mark;
+use rulings::column_mark;
+ghost use mathlib.Core.Path.{_≡_};
+ghost use Prim.Native.Nat.{_<_, _≤_};
+ghost use lib.ListN.{length};
+ghost use Rattle.catalogue.specs.Layout.{table};
+ghost use Rattle.expression.specs.Place.{nodeAt, leafOf, HasNode};
+ghost use Rattle.marking.specs.Marks.{NamesWithin};
+ghost use Rattle.bundle.specs.Held.{Is};
+ghost use Rattle.writing.specs.Binds.{Ruled, Numbered};
+ghost use Rattle.writing.specs.Leaves.{Columned, literalAt, LeafRoom, Puts};
+
+fn literal(ty: ExpressionType, nullable: bool, end: usize) -> Leaf
+    ensures { λ r. ⌜ r ≡ literalAt ty nullable end ⌝ }
+{
+    Leaf {
+        kind: 1,
+        mark: Mark { ty, nullable },
+        end,
+    }
+}
+
+// A number, under a minus or not.
+pub fn put_number(s: &[u8], negative: bool, out: &mut [u8], at: usize) -> Leaf
+    requires { ⌜ LeafRoom (Numbered negative (now s)) (now out) at ⌝ }
+    ensures { λ r. ⌜ Puts (Numbered negative (now (s .entry))) (now (out .entry)) at r (now (out .exit)) ⌝ }
+{
+    match integer_literal(s, negative) {
+        Literal::Value(z) => literal(ExpressionType::Int, false, put_int(out, at, z)),
+        // never: the rule is kept
+        Literal::Bad => literal(ExpressionType::Null, true, at),
+    }
+}
+
+// A name, which stands for a column of the table.
+fn put_column(t: &[u8], quoted: bool, name: &[u8], out: &mut [u8], at: usize) -> Leaf
+    requires { ⌜ length (now name) ≤ 128 ⌝ }
+    requires { ⌜ LeafRoom (Columned (now t) quoted (now name)) (now out) at ⌝ }
+    ensures { λ r. ⌜ Puts (Columned (now (t .entry)) quoted (now (name .entry))) (now (out .entry)) at r (now (out .exit)) ⌝ }
+{
+    match find_column(t, quoted, name) {
+        Named::Is(c) => {
+            let start = c.start;
+            let stop = c.end;
+            let end = put_found(out, at, table_id(t), c, &t[start..stop]);
+            let ty = c.ty;
+            Leaf {
+                kind: 0,
+                mark: column_mark(ty, c.nullable),
+                end,
+            }
+        }
+        // never: the rule is kept
+        Named::Nothing => literal(ExpressionType::Null, true, at),
+    }
+}
+
+// A leaf by its kind: 0 a name, 1 a quoted one, 2 a number, 3 a string, 4 TRUE, 5 FALSE, 6 NULL. No rule is kept by the others.
+pub fn put_content(t: &[u8], e: &[u8], i: usize, k: u8, out: &mut [u8], at: usize) -> Leaf
+    requires { ⌜ NamesWithin (now e) × HasNode (now e) i ⌝ }
+    requires { ⌜ (k ≡ (nodeAt (now e) i) .kind) × (k < 9) ⌝ }
+    requires { ⌜ LeafRoom (Ruled (now t) (leafOf k ((nodeAt (now e) i) .text))) (now out) at ⌝ }
+    ensures { λ r. ⌜ Puts (Ruled (now (t .entry)) (leafOf k ((nodeAt (now (e .entry)) i) .text))) (now (out .entry)) at r (now (out .exit)) ⌝ }
+{
+    match k {
+        0 => put_column(t, false, text(e, i), out, at),
+        1 => put_column(t, true, text(e, i), out, at),
+        2 => put_number(text(e, i), false, out, at),
+        3 => literal(ExpressionType::Text, false, put_text(out, at, text(e, i))),
+        4 => literal(ExpressionType::Bool, false, put_bool(out, at, true)),
+        5 => literal(ExpressionType::Bool, false, put_bool(out, at, false)),
+        6 => literal(ExpressionType::Null, true, put_null(out, at)),
+        _ => literal(ExpressionType::Null, true, at),
+    }
+}
