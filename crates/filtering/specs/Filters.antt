@@ -4,7 +4,7 @@ use mathlib.Core.Path.{_≡_, ap, _∙_}
 use Rattle.resolving.specs.Steps.{classed, step-on, step-off}
 use Rattle.rules.specs.declared.Class.{Class}
 use Rattle.rules.specs.declared.Refusal.{Refusal}
-use Rattle.rules.specs.Answers.{Answer, given, refused, _>>=_, Verdict, fine, flaw, judged}
+use Rattle.rules.specs.Answers.{given, refused, fine, flaw, judged}
 use Rattle.rules.specs.Bound.{BoundExpr, markOf}
 use Rattle.rules.specs.Fits.{isCondition, bindBooleanFilter}
 use Rattle.rules.specs.Marking.{bindExpression}

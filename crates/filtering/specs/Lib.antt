@@ -1,3 +1,4 @@
 pub mod Fits
 pub mod Short
+pub mod There
 pub mod Filters
