@@ -5,6 +5,7 @@ use images::told::Told;
 use judge::generate::planted;
 
 use crate::copies::{Way, every_copy, spliced};
+use crate::edges::edges;
 use crate::made::{image, made};
 use crate::mistakes::Mistake;
 use crate::sides::{Asked, Kind, proved, rust};
@@ -63,6 +64,9 @@ impl Comparison {
 
     fn images_as_made(&mut self, seed: u64, count: u64) {
         self.left = count;
+        for (asked, image) in edges() {
+            self.see(&asked, Way::Made, &image);
+        }
         let mut index = 0;
         while self.left > 0 {
             let case = planted(seed, index).case;

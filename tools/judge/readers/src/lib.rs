@@ -2,6 +2,7 @@
 
 pub mod compare;
 pub mod copies;
+pub mod edges;
 pub mod made;
 pub mod measure;
 pub mod mistakes;

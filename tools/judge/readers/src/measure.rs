@@ -130,8 +130,12 @@ fn named(name: &str) -> ObjectName {
 
 fn insert(rows: usize) -> Statement {
     let number = |text: &str| Expression::leaf(Node::Number(text.to_string()));
-    let row =
-        vec![number("1"), number("23"), Expression::leaf(Node::Text("abc".to_string())), Expression::leaf(Node::True)];
+    let row = vec![
+        number("1"),
+        number("23"),
+        Expression::leaf(Node::Text("as long as it may be".to_string())),
+        Expression::leaf(Node::True),
+    ];
     let values = Values { explicit_row: false, rows: vec![row; rows] };
     let source = Some(Source { clauses: false, values: Some(values) });
     let tree = Tree::Insert(Insert { features: false, table: named("runs"), columns: Vec::new(), source });
