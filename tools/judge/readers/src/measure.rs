@@ -133,7 +133,7 @@ fn insert(rows: usize) -> Statement {
     let row = vec![
         number("1"),
         number("23"),
-        Expression::leaf(Node::Text("as long as it may be".to_string())),
+        Expression::leaf(Node::Text("as long as it may well be".to_string())),
         Expression::leaf(Node::True),
     ];
     let values = Values { explicit_row: false, rows: vec![row; rows] };
