@@ -14,8 +14,8 @@ use resolving::Measured;
 use resolving::Resolved;
 use resolving::refuse;
 use resolving::resolve_direct_table;
+use resolving::unresolved;
 use rules::Class;
-use rules::Refusal;
 use statement::condition::has_condition;
 ghost use mathlib.Core.Path.{_≡_};
 ghost use mathlib.Core.Option.{Option};
@@ -24,24 +24,13 @@ ghost use Rattle.bundle.specs.Held.{Is, Holds};
 ghost use Rattle.bound.specs.Layout.{boundStatement};
 ghost use Rattle.catalogue.specs.Layout.{table, catalogue};
 ghost use Rattle.filtering.specs.There.{ShortCondition};
-ghost use Rattle.resolving.specs.declared.Resolved.the-variants as resolved;
-ghost use Rattle.resolving.specs.Steps.{classed};
 ghost use Rattle.resolving.specs.Told.{sized, ResolvedAs};
-ghost use Rattle.rules.specs.declared.Class.the-variants.{UnsupportedSql};
 ghost use Rattle.rules.specs.Analyze.{analyzeDelete};
 ghost use Rattle.rules.specs.Statements.{Delete, Expr};
 ghost use Rattle.rules.specs.Tables.{TableSchema, Catalogue};
 ghost use Rattle.statement.specs.Layout.{condition, deletion};
 ghost use Rattle.deleting.specs.Deletes.{deletedTable, deletedRows};
 ghost use Rattle.deleting.specs.Within.{DeleteWithin};
-
-fn unsupported() -> Resolved
-    ensures { λ r. ⌜ r ≡ resolved.Refused (classed UnsupportedSql) ⌝ }
-{
-    Resolved::Refused(Refusal {
-        class: Class::UnsupportedSql,
-    })
-}
 
 // The one table that a DELETE names, which has no clause beside its FROM and its WHERE.
 fn deleted_table(c: &[u8], d: &[u8]) -> Resolved
@@ -50,27 +39,27 @@ fn deleted_table(c: &[u8], d: &[u8]) -> Resolved
         → ResolvedAs (now (c .entry)) (deletedTable cat v) r) ⌝ }
 {
     if has_tables(d) {
-        return unsupported();
+        return unresolved(Class::UnsupportedSql);
     }
     if has_using(d) {
-        return unsupported();
+        return unresolved(Class::UnsupportedSql);
     }
     if has_returning(d) {
-        return unsupported();
+        return unresolved(Class::UnsupportedSql);
     }
     if has_order_by(d) {
-        return unsupported();
+        return unresolved(Class::UnsupportedSql);
     }
     if has_limit(d) {
-        return unsupported();
+        return unresolved(Class::UnsupportedSql);
     }
     let f = from_of(d);
     let code = from_code(f);
     if code == 0 {
-        return unsupported();
+        return unresolved(Class::UnsupportedSql);
     }
     if code == 1 {
-        return unsupported();
+        return unresolved(Class::UnsupportedSql);
     }
     resolve_direct_table(c, table_of(f))
 }

@@ -2,15 +2,15 @@
 -- Assumes nothing.
 use mathlib.Core.Path.{_≡_, sym, ap, subst}
 use mathlib.Core.List.{List, [], _∷_}
-use Prim.Native.Nat.{ℕ, zero, suc, _<_}
+use Prim.Native.Nat.{ℕ, zero, suc, _-_, _<_}
 use native.Mathlib.Omega.{arith}
-use lib.ListN.{length, getD}
+use lib.ListN.{length, take, drop, getD}
 use mir.Syntax.{w8}
 use mir.Val.{Fits}
-use Rattle.wire.specs.Le.{Bytes}
+use Rattle.wire.specs.Le.{Bytes, take-bytes, drop-bytes}
 use Rattle.codec.specs.Format.{Every}
 use Rattle.codec.specs.Layout.{pieces}
-use Rattle.bundle.specs.Bundle.{orNil, partsOf, IsBundle}
+use Rattle.bundle.specs.Bundle.{orNil, partsOf, IsBundle, Stepped}
 use Rattle.bundle.specs.Laws.{some-there}
 use Rattle.bundle.specs.Held.{Holds}
 use Rattle.value.specs.Parts.{columnSchema}
@@ -52,3 +52,8 @@ table-name-short b h = let k = table-held h in omega (arith, ap length (k .name)
 
 pub column-name-short : {s : List ℕ} {v : ColumnSchema} → Bytes s → Holds (columnSchema 2) s v → length (v .name) < 65536
 column-name-short b h = let k = column-held h in omega (arith, ap length (k .name), part-short 1 b (k .shape .bundle))
+
+-- a column of a list
+pub listed-name-short : {s : List ℕ} {i at e : ℕ} → Bytes s → Stepped 2 s i at e → {v : ColumnSchema} → Holds (columnSchema 2) (take (e - at) (drop at s)) v
+    → length (v .name) < 65536
+listed-name-short {at = at} {e = e} b d h = column-name-short (take-bytes (e - at) (drop-bytes at b)) h

@@ -47,7 +47,7 @@ pub fn refuse(class: Class) -> Measured
     Measured::Refused(Refusal { class })
 }
 
-fn unresolved(class: Class) -> Resolved
+pub fn unresolved(class: Class) -> Resolved
     ensures { λ r. ⌜ r ≡ resolved.Refused (classed class) ⌝ }
 {
     Resolved::Refused(Refusal { class })

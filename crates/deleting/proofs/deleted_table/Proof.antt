@@ -73,61 +73,61 @@ one-table c = sole (from-is (c .before .before .before)) (c .before .before .fro
 has-tables-requires : tie.Need-has-tables-requires
 has-tables-requires c κs = c .before .before .pre .1 .is
 
-unsupported-requires : tie.Need-unsupported-requires
-unsupported-requires c κs = search needs
+unresolved-requires : tie.Need-unresolved-requires
+unresolved-requires c κs = search needs
 
 returns : tie.Need-returns
 returns c = λ cat v hc h.
-    off-resolved _ (deletedTable cat v) (c .unsupported .ensures) (beside-tables cat v (sym (c .before .before .has-tables .ensures v h) ∙ c .before .if1 .taken))
+    off-resolved _ (deletedTable cat v) (c .unresolved .ensures) (beside-tables cat v (sym (c .before .before .has-tables .ensures v h) ∙ c .before .if1 .taken))
 
 has-using-requires : tie.Need-has-using-requires
 has-using-requires c κs = start1 c .pre .1 .is
 
-unsupported-requires-2 : tie.Need-unsupported-requires-2
-unsupported-requires-2 c κs = search needs
+unresolved-requires-2 : tie.Need-unresolved-requires-2
+unresolved-requires-2 c κs = search needs
 
 returns-2 : tie.Need-returns-2
 returns-2 c = λ cat v hc h.
     let c1 = c .before .before .before in
-    off-resolved _ (deletedTable cat v) (c .unsupported2 .ensures) (beside-using cat v (no-tables c1 v h) (sym (c .before .before .has-using .ensures v h) ∙ c .before .if2 .taken))
+    off-resolved _ (deletedTable cat v) (c .unresolved2 .ensures) (beside-using cat v (no-tables c1 v h) (sym (c .before .before .has-using .ensures v h) ∙ c .before .if2 .taken))
 
 has-returning-requires : tie.Need-has-returning-requires
 has-returning-requires c κs = start2 c .pre .1 .is
 
-unsupported-requires-3 : tie.Need-unsupported-requires-3
-unsupported-requires-3 c κs = search needs
+unresolved-requires-3 : tie.Need-unresolved-requires-3
+unresolved-requires-3 c κs = search needs
 
 returns-3 : tie.Need-returns-3
 returns-3 c = λ cat v hc h.
     let c2 = c .before .before .before in
-    off-resolved _ (deletedTable cat v) (c .unsupported3 .ensures)
+    off-resolved _ (deletedTable cat v) (c .unresolved3 .ensures)
     (beside-returning cat v (no-tables (c2 .before .before) v h) (no-using c2 v h) (sym (c .before .before .has-returning .ensures v h) ∙ c .before .if3 .taken))
 
 has-order-by-requires : tie.Need-has-order-by-requires
 has-order-by-requires c κs = start3 c .pre .1 .is
 
-unsupported-requires-4 : tie.Need-unsupported-requires-4
-unsupported-requires-4 c κs = search needs
+unresolved-requires-4 : tie.Need-unresolved-requires-4
+unresolved-requires-4 c κs = search needs
 
 returns-4 : tie.Need-returns-4
 returns-4 c = λ cat v hc h.
     let c3 = c .before .before .before in
     let c2 = c3 .before .before in
-    off-resolved _ (deletedTable cat v) (c .unsupported4 .ensures)
+    off-resolved _ (deletedTable cat v) (c .unresolved4 .ensures)
     (beside-order-by cat v (no-tables (c2 .before .before) v h) (no-using c2 v h) (no-returning c3 v h) (sym (c .before .before .has-order-by .ensures v h) ∙ c .before .if4 .taken))
 
 has-limit-requires : tie.Need-has-limit-requires
 has-limit-requires c κs = start4 c .pre .1 .is
 
-unsupported-requires-5 : tie.Need-unsupported-requires-5
-unsupported-requires-5 c κs = search needs
+unresolved-requires-5 : tie.Need-unresolved-requires-5
+unresolved-requires-5 c κs = search needs
 
 returns-5 : tie.Need-returns-5
 returns-5 c = λ cat v hc h.
     let c4 = c .before .before .before in
     let c3 = c4 .before .before in
     let c2 = c3 .before .before in
-    off-resolved _ (deletedTable cat v) (c .unsupported5 .ensures)
+    off-resolved _ (deletedTable cat v) (c .unresolved5 .ensures)
     (beside-limit cat v (no-tables (c2 .before .before) v h) (no-using c2 v h) (no-returning c3 v h) (no-order-by c4 v h) (sym (c .before .before .has-limit .ensures v h) ∙ c .before .if5 .taken))
 
 from-of-requires : tie.Need-from-of-requires
@@ -136,22 +136,22 @@ from-of-requires c κs = start5 c .pre .1 .is
 from-code-requires : tie.Need-from-code-requires
 from-code-requires c κs = from-is c
 
-unsupported-requires-6 : tie.Need-unsupported-requires-6
-unsupported-requires-6 c κs = search needs
+unresolved-requires-6 : tie.Need-unresolved-requires-6
+unresolved-requires-6 c κs = search needs
 
 returns-6 : tie.Need-returns-6
 returns-6 c = λ cat v hc h.
     let f = c .before .before .before in
-    off-resolved _ (deletedTable cat v) (c .unsupported6 .ensures)
+    off-resolved _ (deletedTable cat v) (c .unresolved6 .ensures)
     (unmarked (f .before) cat v h ∙ step-off _ (no-keyword (v .from) (sym (c .before .before .from-code .ensures (v .from) (f .from-of .ensures v h)) ∙ c .before .if6 .taken)))
 
-unsupported-requires-7 : tie.Need-unsupported-requires-7
-unsupported-requires-7 c κs = search needs
+unresolved-requires-7 : tie.Need-unresolved-requires-7
+unresolved-requires-7 c κs = search needs
 
 returns-7 : tie.Need-returns-7
 returns-7 c = λ cat v hc h.
     let f = c .before .before .before .before in
-    off-resolved _ (deletedTable cat v) (c .unsupported7 .ensures)
+    off-resolved _ (deletedTable cat v) (c .unresolved7 .ensures)
     (unmarked (f .before) cat v h ∙ step-off _ (not-one (v .from) (sym (c .before .before .before .from-code .ensures (v .from) (f .from-of .ensures v h)) ∙ c .before .if7 .taken)))
 
 table-of-requires : tie.Need-table-of-requires
@@ -178,25 +178,25 @@ deleted-table-spec =
     tie.close
     (tie.spec
     has-tables-requires
-    unsupported-requires
+    unresolved-requires
     returns
     has-using-requires
-    unsupported-requires-2
+    unresolved-requires-2
     returns-2
     has-returning-requires
-    unsupported-requires-3
+    unresolved-requires-3
     returns-3
     has-order-by-requires
-    unsupported-requires-4
+    unresolved-requires-4
     returns-4
     has-limit-requires
-    unsupported-requires-5
+    unresolved-requires-5
     returns-5
     from-of-requires
     from-code-requires
-    unsupported-requires-6
+    unresolved-requires-6
     returns-6
-    unsupported-requires-7
+    unresolved-requires-7
     returns-7
     table-of-requires
     resolve-direct-table-requires

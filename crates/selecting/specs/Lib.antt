@@ -1,0 +1,4 @@
+pub mod Within
+pub mod Columns
+pub mod Entries
+pub mod Selects
