@@ -19,7 +19,7 @@ use Rattle.rules.specs.Limits.{gather, expressionNames, objectNames, sourceRows
 use Rattle.repeats.specs.Entries.{AllShort}
 use Rattle.repeats.specs.declared.Of.the-variants as of
 use Rattle.resolving.specs.Short.{ShortName, all-front, all-back, held-within, insert-short, short-name}
-use Rattle.inserting.specs.Columns.{Targets}
+use Rattle.targets.specs.Columns.{Targets}
 
 -- the INSERT that i holds is within the limits
 pub record InsertWithin (i : List ℕ) : Type 0 where

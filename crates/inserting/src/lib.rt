@@ -1,17 +1,15 @@
 // INSERT over a catalogue, measured: how long its bound image is, or the refusal.
-pub mod columns;
-mod values;
-
 use bound::columns::table_ref_len;
-use columns::bind_columns;
-use columns::lacks;
 use insert::is_modified;
 use resolving::Measured;
 use resolving::Resolved;
 use resolving::name_table;
 use resolving::refuse;
 use rules::Class;
-use values::source_len;
+use targets::Need;
+use targets::bind_columns;
+use targets::lacks;
+use tuples::source_len;
 ghost use mathlib.Core.Path.{_≡_};
 ghost use Prim.Native.Nat.{_≤_};
 ghost use Rattle.codec.specs.Layout.{listOf};
@@ -24,16 +22,10 @@ ghost use Rattle.rules.specs.Analyze.{analyzeInsert};
 ghost use Rattle.rules.specs.Statements.{Insert};
 ghost use Rattle.rules.specs.Tables.{TableSchema, Catalogue};
 ghost use Rattle.resolving.specs.Told.{sized};
-ghost use Rattle.inserting.specs.Small.{AtMost};
-ghost use Rattle.inserting.specs.Values.{Measures};
+ghost use Rattle.targets.specs.Small.{AtMost};
+ghost use Rattle.tuples.specs.Values.{Measures};
 ghost use Rattle.inserting.specs.Within.{InsertWithin};
 ghost use Rattle.inserting.specs.Inserts.{insertRows, insertInto};
-
-// What makes a column one that an INSERT must not leave out.
-pub enum Need {
-    Key,
-    NotNull,
-}
 
 // What follows the n target columns.
 fn measure_rows(t: &[u8], i: &[u8], codes: &[u8; 64], n: usize) -> Measured

@@ -13,10 +13,10 @@ use Rattle.bound.specs.Layout.{boundStatement}
 use Rattle.rules.specs.Lookup.{boundTable}
 use Rattle.literals.specs.Scalars.{known}
 use Rattle.resolving.specs.Steps.{sized-refused, sized-is, sized-off}
-use Rattle.inserting.specs.Columns.{Targets}
-use Rattle.inserting.specs.Small.{table-name-small}
+use Rattle.targets.specs.Columns.{Targets}
 use Rattle.inserting.specs.Within.{within-targets}
 use Rattle.inserting.specs.Inserts.{into-none, into-columns, into-rows, into-given}
+use Rattle.targets.specs.Small.{table-name-small}
 use borrow.Author.Needs.{needs}
 use Rattle.inserting.proofs.analyze_into.Statement.{statement}
 use Rattle.inserting.proofs.analyze_into.Tie as tie

@@ -4,11 +4,10 @@ use mathlib.Core.Path.{sym, _∙_, subst}
 use Rattle.codec.specs.Layout.{listOf}
 use Rattle.value.specs.Parts.{value}
 use Rattle.resolving.specs.Steps.{sized-refused, sized-as}
-use Rattle.inserting.specs.Columns.{Targets}
-use Rattle.inserting.specs.Small.{AtMost}
-use Rattle.inserting.specs.Values.{refused-most}
+use Rattle.targets.specs.Columns.{Targets}
 use Rattle.inserting.specs.Within.{within-targets}
 use Rattle.inserting.specs.Inserts.{rows-key, rows-null, rows-source}
+use Rattle.targets.specs.Small.{AtMost, refused-most}
 use borrow.Author.Needs.{needs}
 use Rattle.inserting.proofs.measure_rows.Statement.{statement}
 use Rattle.inserting.proofs.measure_rows.Tie as tie

@@ -1,0 +1,29 @@
+-- `targets::find_target` meets its contract.
+-- Assumes nothing.
+use mathlib.Core.Path.{ap₂, subst}
+use Rattle.catalogue.specs.Finds.{FindsColumn}
+use Rattle.names.specs.Compared.{named}
+use Rattle.rules.specs.Names.{canonical}
+use Rattle.rules.specs.Statements.{Name}
+use Rattle.targets.specs.Columns.{text-within}
+use borrow.Author.Needs.{needs}
+use Rattle.targets.proofs.find_target.Statement.{statement}
+use Rattle.targets.proofs.find_target.Tie as tie
+
+name-is-quoted-requires : tie.Need-name-is-quoted-requires
+name-is-quoted-requires c κs = search needs
+
+name-text-requires : tie.Need-name-text-requires
+name-text-requires c κs = search needs
+
+find-column-requires : tie.Need-find-column-requires
+find-column-requires c κs = (c .before .before .before .before .pre .0, text-within (c .before .before .before .before .pre .1) (c .name-text .ensures))
+
+returns : tie.Need-returns
+returns c =
+    λ v h. subst (λ (m : Name). FindsColumn (c .before .before .before .before .before .args .t .now) (canonical m) (c .find-column .result))
+    (ap₂ named (c .before .before .name-is-quoted .ensures v h) (c .before .name-text .ensures v h)) (c .find-column .ensures)
+
+pub find-target-spec : {M : Type 1} → statement M
+find-target-spec =
+    tie.close (tie.spec name-is-quoted-requires name-text-requires find-column-requires returns)

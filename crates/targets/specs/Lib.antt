@@ -1,0 +1,4 @@
+pub mod Coded
+pub mod Grown
+pub mod Small
+pub mod Columns
