@@ -79,7 +79,7 @@ part-select-size-end c = held (c .before .before .before .before .before .before
 select-size-requires : tie.Need-select-size-requires
 select-size-requires c κs = held (c .before .before .before .before .before .before .before .before .before .before .before .before .before .pre .0) (λ cat hc. (
   is-held {f = table}
-  (resolved-at _ _ (c .before .before .before .before .selected-table .ensures cat _ (catalogue-tables (c .before .before .before .before .before .before .before .before .before .before .before .before .before .args .c .now) hc) (plain-select (c .before .before .before .before .before))) (c .before .before .start .given .1) .lies .holds),
+      (resolved-at _ _ (c .before .before .before .before .selected-table .ensures cat _ (catalogue-tables (c .before .before .before .before .before .before .before .before .before .before .before .before .before .args .c .now) hc) (plain-select (c .before .before .before .before .before))) (c .before .before .start .given .1) .lies .holds),
   select-within (c .before .before .before .before .before),
 ))
 
