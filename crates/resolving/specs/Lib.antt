@@ -1,4 +1,5 @@
 pub mod Told
+pub mod Room
 pub mod Steps
 pub mod Short
 pub mod Tables
