@@ -33,7 +33,7 @@ ghost use Rattle.deleting.specs.Deletes.{deletedTable, deletedRows};
 ghost use Rattle.deleting.specs.Within.{DeleteWithin};
 
 // The one table that a DELETE names, which has no clause beside its FROM and its WHERE.
-fn deleted_table(c: &[u8], d: &[u8]) -> Resolved
+pub fn deleted_table(c: &[u8], d: &[u8]) -> Resolved
     requires { ⌜ Is (listOf 2 table) (now c) × DeleteWithin (now d) ⌝ }
     ensures { λ r. ⌜ ((cat : Catalogue) (v : Delete) → Holds (listOf 2 table) (now (c .entry)) cat → Holds deletion (now (d .entry)) v
         → ResolvedAs (now (c .entry)) (deletedTable cat v) r) ⌝ }
