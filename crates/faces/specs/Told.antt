@@ -1,7 +1,7 @@
--- What is told of bytes alone: the number of a refusal of paper 01, or 0 where there is none.
+-- What is told of a row beside a catalogue: whether it obeys the table of a number.
 -- Assumes nothing.
 use mathlib.Core.Path.{_≡_, refl, sym, ap, _∙_}
-use mathlib.Core.Bool.{Bool, false, cond, false≢true}
+use mathlib.Core.Bool.{Bool, false, false≢true}
 use mathlib.Core.List.{List, [], _∷_}
 use mathlib.Core.Option.{Option, none, some}
 use Prim.Native.Nat.{ℕ, _≤_, _<_}
@@ -13,29 +13,10 @@ use Rattle.bundle.specs.Held.{Holds, list-count}
 use Rattle.bundle.specs.Laws.{Each, list-values}
 use Rattle.rules.specs.Tables.{TableSchema, Catalogue}
 use Rattle.rules.specs.Rows.{Row}
-use Rattle.rules.specs.Statements.{Statement}
-use Rattle.rules.specs.Limits.{statementWithin, catalogueWithin, namesBeyondAscii}
-use Rattle.statement.specs.Layout.{statement}
 use Rattle.catalogue.specs.Layout.{table, catalogue}
 use Rattle.catalogue.specs.Within.{catalogue-tables}
 use Rattle.row.specs.Layout.{row}
 use Rattle.row.specs.Obeyed.{obeyed}
-
--- 5, then 7, then 8
-abbrev pub ofStatement : ℕ → Option Statement → ℕ
-ofStatement size none = 5
-ofStatement size (some s) = cond (statementWithin size s) (cond (namesBeyondAscii s) 8 0) 7
-
-unfoldable pub toldOfStatement : List ℕ → ℕ
-toldOfStatement s = ofStatement (length s) (statement .read s)
-
--- 6, then 7
-abbrev pub ofCatalogue : ℕ → Option Catalogue → ℕ
-ofCatalogue size none = 6
-ofCatalogue size (some c) = cond (catalogueWithin size c) 0 7
-
-unfoldable pub toldOfCatalogue : List ℕ → ℕ
-toldOfCatalogue s = ofCatalogue (length s) (catalogue .read s)
 
 -- whether a row obeys the first of some tables, and the one of a number: no row obeys one that is not there
 abbrev pub ofFirst : Catalogue → Option Row → Bool
@@ -48,35 +29,6 @@ ofNumber (some c) k r = ofFirst (drop k c) r
 
 unfoldable pub toldObeys : List ℕ → List ℕ → ℕ → Bool
 toldObeys r c k = ofNumber (catalogue .read c) k (row .read r)
-
--- ---- each number, where it is told
-
-module _ (s : List ℕ) where
-  pub no-statement : isThere (statement .read s) ≡ false → 5 ≡ toldOfStatement s
-  unfolding toldOfStatement
-  no-statement h = go (statement .read s) h
-    where
-      go : (m : Option Statement) → isThere m ≡ false → 5 ≡ ofStatement (length s) m
-      go none e = refl
-      go (some v) e = absurd (false≢true (sym e))
-
-  module _ {v : Statement} (h : Holds statement s v) where
-    pub judged-statement : {w b : Bool} → w ≡ statementWithin (length s) v → b ≡ namesBeyondAscii v → cond w (cond b 8 0) 7 ≡ toldOfStatement s
-    unfolding toldOfStatement
-    judged-statement {b = b} e f = ap (λ (t : Bool). cond t (cond b 8 0) 7) e ∙ ap (λ (t : Bool). cond (statementWithin (length s) v) (cond t 8 0) 7) f ∙ sym (ap (ofStatement (length s)) h)
-
-  pub no-catalogue : isThere (catalogue .read s) ≡ false → 6 ≡ toldOfCatalogue s
-  unfolding toldOfCatalogue
-  no-catalogue h = go (catalogue .read s) h
-    where
-      go : (m : Option Catalogue) → isThere m ≡ false → 6 ≡ ofCatalogue (length s) m
-      go none e = refl
-      go (some c) e = absurd (false≢true (sym e))
-
-  module _ {c : Catalogue} (h : Holds catalogue s c) where
-    pub judged-catalogue : {b : Bool} → b ≡ catalogueWithin (length s) c → cond b 0 7 ≡ toldOfCatalogue s
-    unfolding toldOfCatalogue
-    judged-catalogue e = ap (λ (t : Bool). cond t 0 7) e ∙ sym (ap (ofCatalogue (length s)) h)
 
 -- ---- a row and the table of a number
 

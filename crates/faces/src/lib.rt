@@ -1,10 +1,12 @@
 // The readers as C calls them: a slice is a pointer and a length, and any bytes will do. Nothing is judged here that a reader below does not judge.
+use sirklemet::received;
 ghost use mathlib.Core.Path.{_≡_};
 ghost use Rattle.bundle.specs.Bundle.{isThere};
 ghost use Rattle.statement.specs.Layout.{statement};
 ghost use Rattle.catalogue.specs.Layout.{catalogue};
 ghost use Rattle.row.specs.Layout.{row};
-ghost use Rattle.faces.specs.Told.{toldOfStatement, toldOfCatalogue, toldObeys};
+ghost use Rattle.sirklemet.specs.Told.{toldOfStatement, toldOfCatalogue};
+ghost use Rattle.faces.specs.Told.{toldObeys};
 
 #[no_mangle]
 pub extern "C" fn sirklemet_is_statement(bytes: &[u8]) -> bool
@@ -18,16 +20,7 @@ pub extern "C" fn sirklemet_is_statement(bytes: &[u8]) -> bool
 pub extern "C" fn sirklemet_read_statement(bytes: &[u8]) -> u8
     ensures { λ r. ⌜ r ≡ toldOfStatement (now (bytes .entry)) ⌝ }
 {
-    if !reader::is_statement(bytes) {
-        return 5;
-    }
-    if !limits::statement_within(bytes) {
-        return 7;
-    }
-    if ascii::names_beyond_ascii(bytes) {
-        return 8;
-    }
-    0
+    received::read_statement(bytes)
 }
 
 #[no_mangle]
@@ -42,13 +35,7 @@ pub extern "C" fn sirklemet_is_catalogue(bytes: &[u8]) -> bool
 pub extern "C" fn sirklemet_read_catalogue(bytes: &[u8]) -> u8
     ensures { λ r. ⌜ r ≡ toldOfCatalogue (now (bytes .entry)) ⌝ }
 {
-    if !catalogue::is_catalogue(bytes) {
-        return 6;
-    }
-    if !catalogue::catalogue_within(bytes) {
-        return 7;
-    }
-    0
+    received::read_catalogue(bytes)
 }
 
 // Of whatever table.

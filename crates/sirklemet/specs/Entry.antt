@@ -44,9 +44,9 @@ runBytes s c r room = next (runOutcome rowSize room (readStatement s) (readCatal
 -- ---- "A refusal answers its number with length 0, and the output holds the bytes it held before. Success answers the length written; bytes past
 -- it stay."
 
-abbrev pub refusal : Outcome (List ℕ) → ℕ
+abbrev pub refusal : {A : Type 0} → Outcome A → ℕ
 refusal (refuses k) = k
-refusal (answers b) = 0
+refusal (answers a) = 0
 
 abbrev pub written : Outcome (List ℕ) → ℕ
 written (refuses k) = 0

@@ -1,4 +1,6 @@
 pub mod Entry
+pub mod Told
+pub mod Binds
 pub mod Hex
 pub mod Worked
 pub mod Demand

@@ -1,1 +1,2 @@
-// The public operations. `specs/Entry.antt` has what each answers and what its output then holds; there is no code here yet.
+// The public operations. `specs/Entry.antt` has what each answers and what its output then holds.
+pub mod received;

@@ -1,4 +1,4 @@
--- `faces::sirklemet_read_catalogue` meets its contract.
+-- `sirklemet::received::read_catalogue` meets its contract.
 -- Assumes nothing.
 use mathlib.Core.Path.{sym, _∙_}
 use borrow.Author.Needs.{needs}
@@ -6,18 +6,18 @@ use borrow.Author.Tests.{not-true, not-false}
 use Rattle.bundle.specs.Decides.{failed, passed}
 use Rattle.bundle.specs.Held.{Is, held}
 use Rattle.catalogue.specs.Layout.{catalogue}
-use Rattle.faces.specs.Told.{no-catalogue, judged-catalogue}
-use Rattle.faces.proofs.sirklemet_read_catalogue.Statement.{statement}
-use Rattle.faces.proofs.sirklemet_read_catalogue.Tie as tie
+use Rattle.sirklemet.specs.Told.{no-catalogue, judged-catalogue}
+use Rattle.sirklemet.proofs.received.read_catalogue.Statement.{statement}
+use Rattle.sirklemet.proofs.received.read_catalogue.Tie as tie
 
 is-catalogue-requires : tie.Need-is-catalogue-requires
 is-catalogue-requires c κs = search needs
 
 returns : tie.Need-returns
-returns c = no-catalogue (c .before .before .before .args .bytes .now) (failed (c .before .is-catalogue .ensures) (c .if1 .taken))
+returns c = no-catalogue (c .before .before .before .args .c .now) (failed (c .before .is-catalogue .ensures) (c .if1 .taken))
 
 -- behind the first test
-taken : (c : tie.Else1) → Is catalogue (c .before .before .before .args .bytes .now)
+taken : (c : tie.Else1) → Is catalogue (c .before .before .before .args .c .now)
 taken c = record { there = passed (c .before .is-catalogue .ensures) (c .if1 .left) }
 
 catalogue-within-requires : tie.Need-catalogue-within-requires
@@ -26,15 +26,15 @@ catalogue-within-requires c κs = taken c
 returns-2 : tie.Need-returns-2
 returns-2 c =
     held (taken (c .before .before)) (λ v h.
-    judged-catalogue (c .before .before .before .before .before .args .bytes .now) h (sym (not-true _ (c .if2 .taken)) ∙ c .before .catalogue-within .ensures v h))
+    judged-catalogue (c .before .before .before .before .before .args .c .now) h (sym (not-true _ (c .if2 .taken)) ∙ c .before .catalogue-within .ensures v h))
 
 returns-3 : tie.Need-returns-3
 returns-3 c =
     held (taken (c .before .before)) (λ v h.
-    judged-catalogue (c .before .before .before .before .before .args .bytes .now) h (sym (not-false _ (c .if2 .left)) ∙ c .before .catalogue-within .ensures v h))
+    judged-catalogue (c .before .before .before .before .before .args .c .now) h (sym (not-false _ (c .if2 .left)) ∙ c .before .catalogue-within .ensures v h))
 
-pub sirklemet-read-catalogue-spec : {M : Type 1} → statement M
-sirklemet-read-catalogue-spec =
+pub read-catalogue-spec : {M : Type 1} → statement M
+read-catalogue-spec =
     tie.close
     (tie.spec
     is-catalogue-requires
