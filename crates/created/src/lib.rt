@@ -41,7 +41,7 @@ ghost use Rattle.rules.specs.Names.{canonical};
 ghost use Rattle.rules.specs.Tables.{ColumnSchema, Catalogue, columnNamed};
 ghost use Rattle.rules.specs.Statements.{Name, plain, ColumnDefinition, CreateTable};
 ghost use Rattle.rules.specs.Bound.{BoundStatement};
-ghost use Rattle.creating.specs.Defined.{stated, typed, mayBeNull, schema, schemas, keyOf, roomFor};
+ghost use Rattle.creating.specs.Defined.{stated, typed, mayBeNull, schema, schemas, keyOf};
 ghost use Rattle.creating.specs.Keys.{KeyAt};
 ghost use Rattle.creating.specs.Within.{CreateWithin, FewColumns, FewNames, KeyIn};
 ghost use Rattle.resolving.specs.Room.{Bindable};
