@@ -1,18 +1,16 @@
 -- What `bindBytes` answers, case by case, as the code finds out: a refusal before the rules are asked, then the rules' own, then 9, then the bytes.
--- And what the output holds then.
 -- Assumes nothing.
 use mathlib.Core.Path.{_≡_, refl, sym, ap, ap₂, _∙_}
 use mathlib.Core.Bool.{Bool, true, false, cond, not, _&&_}
-use mathlib.Core.List.{List, [], _∷_, _++_}
+use mathlib.Core.List.{List}
 use mathlib.Core.Option.{Option, none, some, Option·map}
-use Prim.Native.Nat.{ℕ, zero, suc, _+_, _≤_, _<_}
+use Prim.Native.Nat.{ℕ, _≤_, _<_}
 use native.Mathlib.Omega.{arith}
 use borrow.Author.Tests.{le-leb, lt-leb}
 use lib.Dec.{leb}
-use lib.ListN.{length, set, drop}
-use lib.Seq.{sets}
+use lib.ListN.{length}
 use Rattle.wire.specs.Sets.{Wrote}
-use Rattle.bundle.specs.Held.{Holds}
+use Rattle.bundle.specs.Held.{Holds, is-held, held-once}
 use Rattle.rules.specs.declared.Refusal.{Refusal}
 use Rattle.rules.specs.Tables.{Catalogue}
 use Rattle.rules.specs.Statements.{Statement}
@@ -25,10 +23,16 @@ use Rattle.statement.specs.Layout as statement-layout
 use Rattle.statement.specs.Layout.{statement}
 use Rattle.catalogue.specs.Layout as catalogue-layout
 use Rattle.catalogue.specs.Layout.{catalogue}
+use Rattle.resolving.specs.declared.Measured.the-variants as measured
+use Rattle.resolving.specs.Told as resolving
+use Rattle.resolving.specs.Steps.{Sized, sized-is}
+use Rattle.resolving.specs.Room.{Bindable, bindable}
+use Rattle.analyzer.specs.Within.{StatementWithin}
 use Rattle.bound.specs.Layout as bound
 use Rattle.bound.specs.Layout.{boundStatement}
-use Rattle.sirklemet.specs.Entry.{sized, readStatement, readCatalogue, boundSize, bindBytes, refusal, written, held}
+use Rattle.sirklemet.specs.Entry.{sized, readStatement, readCatalogue, boundSize, bindBytes, refusal}
 use Rattle.sirklemet.specs.Told.{toldOfBoth}
+use Rattle.sirklemet.specs.Leaves.{Leaves, reply, leaves-written}
 
 -- ---- both are received
 
@@ -106,34 +110,35 @@ module _ (s c : List ℕ) (room : ℕ) where
       unfolding bound.encode
       bound-bytes l = bound-answered ∙ ap (λ (t : Bool). bytesOf (cond t (answers b) (refuses 9))) (le-leb (length (boundStatement .write b)) room l)
 
--- ---- what the output holds
+-- ---- what the code knows on the way
 
--- an outcome as the code answers it: a number and a length, with the output as it was and as it is
-pub record Leaves (o : Outcome (List ℕ)) (old : List ℕ) (k n : ℕ) (new : List ℕ) : Type 0 where
-  pub number : k ≡ refusal o
-  pub size : n ≡ written o
-  pub output : new ≡ held o old
-
-pub leaves-as-it-was : {o : Outcome (List ℕ)} {old : List ℕ} {k : ℕ} → o ≡ refuses k → Leaves o old k 0 old
-leaves-as-it-was {old = old} e = record {
-  number = sym (ap refusal e);
-  size = sym (ap written e);
-  output = sym (ap (λ (x : Outcome (List ℕ)). held x old) e);
+-- what the analysis asks for
+pub statement-within : {s c : List ℕ} → Received s c → StatementWithin s
+statement-within {s} h = record {
+  is = is-held (h .holds);
+  within = λ v e. ap (λ (x : Statement). statementWithin (length s) x) (held-once statement e (h .holds)) ∙ h .within;
 }
 
--- bytes written from the front are the front
-sets-set : (l : List ℕ) (i a : ℕ) (x : List ℕ) → sets (a ∷ l) (suc i) x ≡ a ∷ sets l i x
-sets-set l i a [] = refl
-sets-set l i a (b ∷ x) = sets-set (set l i b) (suc i) a x
+-- the bound statement's image is n bytes long
+pub record Measures (s c : List ℕ) (n : ℕ) : Type 0 where
+  pub both : Received s c
+  pub is : measured.Is n ≡ resolving.sized boundStatement (analyze (both .tables) (both .value))
 
-pub sets-front : (old x : List ℕ) → length x ≤ length old → sets old 0 x ≡ x ++ drop (length x) old
-sets-front old [] l = refl
-sets-front [] (a ∷ x) l = absurd (omega arith)
-sets-front (b ∷ old) (a ∷ x) l = sets-set old 0 a x ∙ ap (λ (y : List ℕ). a ∷ y) (sets-front old x (omega arith))
+module _ {s c : List ℕ} {n : ℕ} (m : Measures s c n) where
+  size-of : Sized boundStatement (analyze (m .both .tables) (m .both .value)) n
+  size-of = sized-is boundStatement (m .is) refl
 
-pub leaves-written : {o : Outcome (List ℕ)} {old new x : List ℕ} {n : ℕ} → o ≡ answers x → length x ≤ length old → Wrote old 0 x n new → Leaves o old 0 n new
-leaves-written {old = old} {x = x} e l w = record {
-  number = sym (ap refusal e);
-  size = omega (arith, w .end, ap written e);
-  output = w .is ∙ sets-front old x l ∙ sym (ap (λ (y : Outcome (List ℕ)). held y old) e);
-}
+  pub no-room : {room : ℕ} → room < n → bindBytes s c room ≡ refuses 9
+  no-room {room} l = let z = size-of in refused-for-room s c room (m .both) (z .gives) (omega arith)
+
+  pub has-room : {o : List ℕ} → n ≤ length o → Bindable statement boundStatement analyze c s o
+  has-room l = bindable statement boundStatement analyze (m .both .tables) (m .both .value) (m .both .lists) (m .both .holds) (m .is) l
+
+  pub image-written : {old new : List ℕ} {k : ℕ} → n ≤ length old
+      → ((cat : Catalogue) (v : Statement) (b : BoundStatement) → Holds catalogue c cat → Holds statement s v → analyze cat v ≡ given b
+      → Wrote old 0 (boundStatement .write b) k new)
+      → Leaves (bindBytes s c (length old)) old (reply 0 k) new
+  image-written {old} l w =
+      let z = size-of in
+      leaves-written (bound-bytes s c (length old) (m .both) (z .gives) (omega arith)) (omega arith)
+      (w (m .both .tables) (m .both .value) (z .value) (m .both .lists) (m .both .holds) (z .gives))
