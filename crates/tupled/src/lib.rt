@@ -17,7 +17,7 @@ ghost use Rattle.rules.specs.Answers.{each};
 ghost use Rattle.rules.specs.Analyze.{insertLiteral};
 ghost use Rattle.tupled.specs.Listing.{Gives, Puts, literals};
 
-// How many parts a list has, or how long a part is.
+// How many parts a list has, or how long a part is. The statement's own counts have 2 bytes, so no number comes near 4.
 pub fn put_length(out: &mut [u8], at: usize, n: usize) -> usize
     requires { ⌜ at + 4 ≤ length (now out) ⌝ }
     ensures { λ r. ⌜ Wrote (now (out .entry)) at (le 4 n) r (now (out .exit)) ⌝ }
