@@ -4,32 +4,26 @@ use mathlib.Core.Path.{_≡_, refl, sym, ap, ap₂, _∙_}
 use mathlib.Core.Bool.{Bool, true, false, _&&_, _||_, true≢false}
 use mathlib.Core.List.{List, [], _∷_, _++_, map}
 use mathlib.Core.Option.{none, some, Option·some-injective, Option·none-ne-some}
-use Prim.Native.Nat.{ℕ, zero, suc, _+_, _-_, _≤_, _<_}
+use Prim.Native.Nat.{ℕ, zero, suc, _+_, _-_, _≤_}
 use native.Mathlib.Omega.{arith}
 use lib.Dec.{eqb}
-use lib.ListN.{length, take, drop, getD, length-append, length-drop, drop-of-length-le}
-use borrow.Author.Tests.{eqb-true, eq-eqb, leb-true}
-use Rattle.codec.specs.Format.{Format}
-use Rattle.codec.specs.Layout.{listOf}
-use Rattle.bundle.specs.Bundle.{partsOf, Stepped}
+use lib.ListN.{length, take, drop, getD, length-append, drop-of-length-le}
+use borrow.Author.Tests.{eqb-true, eq-eqb}
 use Rattle.bundle.specs.Decides.{and-of}
-use Rattle.bundle.specs.Held.{Holds, turn, held, held-once, is-held}
-use Rattle.bundle.specs.Laws.{list-values}
 use Rattle.catalogue.specs.Finds.{find-hit, find-miss}
 use Rattle.repeats.specs.declared.Of.the-variants as of
-use Rattle.repeats.specs.Entries.{entry, ShortIn, AllShort}
+use Rattle.repeats.specs.Entries.{entry}
 use Rattle.repeats.specs.Repeats.{alike, firstRepeated, isAt, any-last, take-next, drop-next, drop-map, Reached, reached-none, reached-turn, reached-on}
 use Rattle.resolving.specs.Steps.{found-on, found-off, test-on, test-off}
 use Rattle.rules.specs.declared.ColumnId.{ColumnId}
 use Rattle.rules.specs.declared.Class.the-variants.{SchemaMismatch, ConstraintViolation}
-use Rattle.rules.specs.Lists.{Text, same, any, all, find}
-use Rattle.rules.specs.Limits.{nameWithin}
+use Rattle.rules.specs.Lists.{Text, same, any, find}
 use Rattle.rules.specs.Answers.{Answer, given, refuse, refuseIf, found, _>>=_, _>>_}
 use Rattle.rules.specs.Names.{canonical}
 use Rattle.rules.specs.Tables.{ColumnSchema, sameId, columnNamed}
 use Rattle.rules.specs.Statements.{Name, ColumnDefinition}
 use Rattle.rules.specs.Analyze.{keyIds}
-use Rattle.statement.specs.Layout.{name, columnDefinition}
+use Rattle.statement.specs.Layout.{name}
 use Rattle.creating.specs.Defined.{schema, schemas, roomFor}
 
 -- ---- texts
@@ -186,56 +180,6 @@ names-end {cs} {ns} {k} t h = t .is ∙ ap (λ (l : List Name). keyIds (schemas 
 pub one-name : (cs : List ColumnSchema) (n : Text) {c : ColumnSchema} → find (columnNamed n) cs ≡ some c → keyIds cs [] (n ∷ []) ≡ given (c .id ∷ [])
 unfolding keyIds
 one-name cs n e = found-on SchemaMismatch _ e
-
--- ---- part j of a list
-
-pub record PartIs {A : Type 0} (f : Format A) (s : List ℕ) (j : ℕ) (v : A) : Type 0 where
-  pub few : j < length (partsOf 2 s)
-  pub holds : Holds f (getD (partsOf 2 s) j []) v
-
-pub part-at : {A : Type 0} (f : Format A) (s : List ℕ) (j : ℕ) {vs m : List A} {v : A} → Holds (listOf 2 f) s vs → drop j vs ≡ v ∷ m → PartIs f s j v
-part-at {A} f s j {vs} {m} {v} h d =
-    let e = list-values 2 f s h in
-    let w : j < length (partsOf 2 s) = omega (arith, e .count, ap length d, length-drop j vs) in
-    record { few = w; holds = e .value j v w ∙ ap some (at j vs d) }
-  where
-    at : (j : ℕ) (vs : List A) → drop j vs ≡ v ∷ m → getD vs j v ≡ v
-    at zero vs d = ap (λ (l : List A). getD l 0 v) d
-    at (suc j) [] d = refl
-    at (suc j) (x ∷ vs) d = at j vs d
-
--- ---- short names
-
-module _ {A : Type 0} where
-  all-at : (p : A → Bool) (i : ℕ) (l : List A) {x : A} {m : List A} → all p l ≡ true → drop i l ≡ x ∷ m → p x ≡ true
-  all-at p zero [] h e = absurd (omega (arith, ap length e))
-  all-at p (suc i) [] h e = absurd (omega (arith, ap length e))
-  all-at p zero (y ∷ l) {x} {m} h e = and-of (p x) (all p m) (ap (all p) (sym e) ∙ h) .0
-  all-at p (suc i) (y ∷ l) h e = all-at p i l (and-of (p y) (all p l) h .1) e
-
--- the name of a column
-pub short-column : {s p : List ℕ} {i at e : ℕ} → AllShort of.Columns s → Stepped 2 s i at e
-    → ((v : ColumnDefinition) → Holds columnDefinition (take (e - at) (drop at s)) v → Holds name p (v .name)) → ShortIn name some p
-short-column {s} {p} {i} {at} {e} a d g = held (a .is) (λ cs h.
-    let t = turn d h in
-    record {
-      is = is-held {f = name} (g (t .value) (t .holds));
-      short = λ n k.
-          ap (λ (x : Name). nameWithin (x .text)) (held-once name {s = p} k (g (t .value) (t .holds)))
-          ∙ all-at (λ (v : ColumnDefinition). nameWithin (v .name .text)) i cs (a .short cs h) (t .rest);
-    })
-
--- a name of a list
-pub short-name-part : {s : List ℕ} {i at e : ℕ} → AllShort of.Names s → Stepped 2 s i at e → ShortIn name some (take (e - at) (drop at s))
-short-name-part {s} {i} {at} {e} a d = held (a .is) (λ ns h.
-    let t = turn d h in
-    record {
-      is = is-held {f = name} (t .holds);
-      short = λ n k. ap (λ (x : Name). nameWithin (x .text)) (held-once name {s = take (e - at) (drop at s)} k (t .holds)) ∙ all-at (λ (x : Name). nameWithin (x .text)) i ns (a .short ns h) (t .rest);
-    })
-
-pub short-length : {p t : List ℕ} → ShortIn name some p → ((n : Name) → Holds name p n → t ≡ n .text) → length t ≤ 128
-short-length {p} {t} w g = held (w .is) (λ n h. omega (arith, ap length (g n h), leb-true (length (n .text)) 128 (w .short n h)))
 
 -- ---- the room of the columns
 

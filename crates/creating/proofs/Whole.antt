@@ -2,20 +2,14 @@
 -- Assumes nothing.
 use mathlib.Core.Path.{_≡_, refl, sym, ap, _∙_, subst}
 use mathlib.Core.Bool.{Bool, true, false}
-use mathlib.Core.List.{List, [], _∷_, _++_, map}
+use mathlib.Core.List.{List, [], _∷_, map}
 use mathlib.Core.Option.{Option, none, some}
 use Prim.Native.Nat.{ℕ, _+_, _*_, _≤_}
 use native.Mathlib.Omega.{arith}
-use lib.ListN.{length, length-map, length-append, drop, getD}
-use Rattle.codec.specs.Layout.{alone, listOf}
-use Rattle.value.specs.Parts.{columnId}
+use lib.ListN.{length, length-map}
+use Rattle.codec.specs.Layout.{listOf}
 use Rattle.bound.specs.Layout.{boundStatement}
-use Rattle.bound.specs.Made.{columnIds}
-use Rattle.bound.specs.Spelt.{ids-length}
-use Rattle.bound.specs.Sizes.{create-table-length}
-use Rattle.bundle.specs.Bundle.{partsOf}
-use Rattle.bundle.specs.Held.{Holds, Is, Shows, same, held, held-once, is-held}
-use Rattle.create.specs.Held.{isKey}
+use Rattle.bundle.specs.Held.{Holds, Is, held, held-once}
 use Rattle.expression.specs.Names.{Within}
 use Rattle.repeats.specs.declared.Of.the-variants as of
 use Rattle.repeats.specs.declared.Repeat.{Repeat}
@@ -29,25 +23,25 @@ use Rattle.resolving.specs.Short.{short-plain}
 use Rattle.resolving.specs.Tables.{newName, canonical-length}
 use Rattle.rules.specs.declared.ColumnId.{ColumnId}
 use Rattle.rules.specs.declared.Class.{Class}
-use Rattle.rules.specs.declared.Class.the-variants.{SchemaMismatch, ConstraintViolation, UnsupportedSql}
+use Rattle.rules.specs.declared.Class.the-variants.{ConstraintViolation, UnsupportedSql}
 use Rattle.rules.specs.declared.Refusal.{Refusal}
-use Rattle.rules.specs.Lists.{Text, isSome, isEmpty, any, all, find}
+use Rattle.rules.specs.Lists.{Text, isSome, isEmpty, all}
 use Rattle.rules.specs.Limits.{objectNames, heldByCreateTable, heldWithin}
 use Rattle.rules.specs.Answers.{Answer, given, refused, refuse, refuseIf, found, _>>=_, _>>_}
 use Rattle.rules.specs.Names.{canonical, simpleName}
-use Rattle.rules.specs.Tables.{ColumnSchema, Catalogue, sameId, columnNamed, tableByName}
-use Rattle.rules.specs.Statements.{Name, ObjectName, plain, qualified, ColumnDefinition, Constraint, primaryKey, CreateTable}
+use Rattle.rules.specs.Tables.{Catalogue, tableByName}
+use Rattle.rules.specs.Statements.{ObjectName, plain, qualified, ColumnDefinition, CreateTable}
 use Rattle.rules.specs.Theorems.Answered.{never-given, bind-given}
-use Rattle.rules.specs.Analyze.{defineColumns, constraints, keyIds, outsideNull, analyzeCreateTable}
-use Rattle.statement.specs.Layout.{name, columnDefinition, constraint, create}
+use Rattle.rules.specs.Analyze.{defineColumns, constraints, keyIds, analyzeCreateTable}
+use Rattle.statement.specs.Layout.{name, columnDefinition, create}
 use Rattle.creating.specs.declared.Key.{Key}
 use Rattle.creating.specs.declared.Key.the-variants.{Nowhere, Column, Constrained}
 use Rattle.creating.specs.declared.Keyed.{Keyed}
 use Rattle.creating.specs.declared.Keyed.the-variants as keyed
-use Rattle.creating.specs.Defined.{schemas, definition, keyOf, created, keyTable, key-joined, defineTable, create-steps, roomFor, room-is}
-use Rattle.creating.specs.Keys.{KeyAt, NamedAt, ByColumn, ByConstraint, key-inline, ColumnsRead, ReadsConstraints, readOf, readKey, ReadsKey, read-joined, counted}
+use Rattle.creating.specs.Defined.{schemas, definition, keyOf, created, keyTable, key-joined, defineTable, create-steps, roomFor, created-size, keys-length}
+use Rattle.creating.specs.Keys.{KeyAt, NamedAt, ByColumn, key-inline, ColumnsRead, ReadsConstraints, readOf, readKey, ReadsKey, read-joined, counted}
 use Rattle.creating.specs.Within.{PlaceIn, KeyIn, names-few}
-use Rattle.creating.proofs.Names.{find-there, one-name, PartIs, part-at}
+use Rattle.creating.proofs.Names.{find-there, one-name}
 
 -- ---- columns, then constraints
 
@@ -90,19 +84,6 @@ module _ (cs : List ColumnDefinition) {names : Option (List Text)} where
   pub count-list : {l : List Text} → names ≡ some l → counted (keyOf (schemas 0 cs) names) ≡ counted (keyIds (schemas 0 cs) [] l)
   count-list e = ap (λ (o : Option (List Text)). counted (keyOf (schemas 0 cs) o)) e
 
--- a key's ids are as many as its names
-keys-length : (cs : List ColumnSchema) (before : List ColumnId) (ns : List Text) {ids : List ColumnId} → keyIds cs before ns ≡ given ids → length ids ≡ length before + length ns
-unfolding keyIds
-keys-length cs before [] {ids} e = let z : before ≡ ids = cc in omega (arith, ap length z)
-keys-length cs before (n ∷ ns) {ids} e =
-    let a = bind-given (found (find (columnNamed n) cs) SchemaMismatch) (λ c. refuseIf (any (sameId (c .id)) before) ConstraintViolation >> keyIds cs (before ++ (c .id ∷ [])) ns) ids e in
-    go (a .0) (any (sameId (a .0 .id)) before) (λ h. keys-length cs (before ++ (a .0 .id ∷ [])) ns h) (a .2)
-  where
-    go : (c : ColumnSchema) (b : Bool) → (keyIds cs (before ++ (c .id ∷ [])) ns ≡ given ids → length ids ≡ length (before ++ (c .id ∷ [])) + length ns)
-        → (refuseIf b ConstraintViolation >> keyIds cs (before ++ (c .id ∷ [])) ns) ≡ given ids → length ids ≡ length before + length (n ∷ ns)
-    go c true f e = absurd (never-given e)
-    go c false f e = omega (arith, f e, length-append before (c .id ∷ []))
-
 -- what was counted, by the case
 pub record Counted (a : Answer (List ColumnId)) (n : ℕ) : Type 0 where
   pub ids : List ColumnId
@@ -140,56 +121,7 @@ key-few v w {key} {names} k {ids} e =
     go l (Column i) k e = let z : canonical (k .column .name) ∷ [] ≡ l = cc in omega (arith, ap length z)
     go l (Constrained j) k e = let z : map canonical (k .list) ≡ l = cc in omega (arith, ap length z, names-few v w j (k .here), length-map (k .list) canonical)
 
--- ---- a key of a constraint, in the bytes
-
-pub record ConstraintIn (s p : List ℕ) (j : ℕ) : Type 0 where
-  pub value : CreateTable
-  pub whole : Holds create s value
-  pub marked : Bool
-  pub list : List Name
-  pub rest : List Constraint
-  pub here : drop j (value .constraints) ≡ primaryKey marked list ∷ rest
-  pub part : PartIs constraint p j (primaryKey marked list)
-
-pub constraint-in : {s p : List ℕ} {key : Key} {j : ℕ} → Is create s → KeyIn s key → key ≡ Constrained j
-    → ((v : CreateTable) → Holds create s v → Holds (listOf 2 constraint) p (v .constraints)) → ConstraintIn s p j
-constraint-in {s} {p} {key} {j} i k e g =
-    held i (λ v h.
-    let a = k .at v h in
-    let b : ByConstraint (v .constraints) j (a .0) = subst (λ (x : Key). NamedAt (v .columns) (v .constraints) x (a .0)) e (a .1 .named) in
-    record {
-      value = v;
-      whole = h;
-      marked = b .marked;
-      list = b .list;
-      rest = b .rest;
-      here = b .here;
-      part = part-at constraint p j (g v h) (b .here);
-    })
-
--- the part itself
-pub part-holds : {s p : List ℕ} {j : ℕ} {v : Constraint} → p ≡ getD (partsOf 2 s) j [] → PartIs constraint s j v → Holds constraint p v
-part-holds e k = same constraint e (k .holds)
-
-pub part-shows : {p : List ℕ} {m : Bool} {ns : List Name} → Holds constraint p (primaryKey m ns) → Shows constraint isKey p
-part-shows {p} h = record { there = is-held {f = constraint} h .there; case = λ w k. ap isKey (held-once constraint {s = p} k h) }
-
 -- ---- how long it is
-
-ids-back : (ids : List ColumnId) → columnIds (map (λ (i : ColumnId). i .0) ids) ≡ ids
-ids-back [] = refl
-ids-back (i ∷ ids) = ap (λ (l : List ColumnId). i ∷ l) (ids-back ids)
-
-pub ids-size : (ids : List ColumnId) → length (listOf 4 (alone columnId) .write ids) ≡ 4 + 12 * length ids
-ids-size ids =
-    ap (λ (l : List ColumnId). length (listOf 4 (alone columnId) .write l)) (sym (ids-back ids)) ∙ ids-length (map (λ (i : ColumnId). i .0) ids)
-    ∙ ap (λ (n : ℕ). 4 + 12 * n) (length-map ids (λ (i : ColumnId). i .0))
-
-pub created-size : (t : Text) (cs : List ColumnDefinition) (ids : List ColumnId)
-    → length (boundStatement .write (created t (schemas 0 cs) ids)) ≡ 17 + length t + roomFor cs + (4 + 12 * length ids)
-created-size t cs ids =
-    create-table-length (record { tableName = t; columns = map (outsideNull ids) (schemas 0 cs); key = ids })
-    ∙ omega (arith, room-is ids 0 cs, ids-size ids)
 
 module _ (t : Text) (cs : List ColumnDefinition) (names : Option (List Text)) where
   pub keyed-given : {n m : ℕ} → Counted (keyOf (schemas 0 cs) names) n → m ≡ 17 + length t + roomFor cs + (4 + 12 * n) → measured.Is m ≡ sized boundStatement (keyTable t (schemas 0 cs) names)

@@ -1,21 +1,22 @@
 -- The columns of a CREATE TABLE one by one: what is judged of a column by itself, and the column that is made of it.
 -- Assumes nothing.
-use mathlib.Core.Path.{_≡_, refl, ap, _∙_}
+use mathlib.Core.Path.{_≡_, refl, sym, ap, _∙_}
 use mathlib.Core.Bool.{Bool, true, false, not, cond, _&&_}
 use mathlib.Core.List.{List, [], _∷_, _++_, map}
 use mathlib.Core.Option.{Option, none, some}
-use Prim.Native.Nat.{ℕ, _+_}
+use Prim.Native.Nat.{ℕ, _+_, _*_}
 use native.Mathlib.Omega.{arith}
-use lib.ListN.{length}
-use Rattle.rules.specs.declared.Class.the-variants.{ConstraintViolation, UnsupportedSql}
+use lib.ListN.{length, length-append, length-map}
+use Rattle.rules.specs.declared.Class.the-variants.{SchemaMismatch, ConstraintViolation, UnsupportedSql}
 use Rattle.rules.specs.declared.ColumnId.{ColumnId}
 use Rattle.rules.specs.declared.DataType.{DataType}
 use Rattle.rules.specs.declared.DataType.the-variants as data-type
-use Rattle.rules.specs.Lists.{Text, isSome, isEmpty, any}
+use Rattle.rules.specs.Lists.{Text, isSome, isEmpty, any, find}
 use Rattle.rules.specs.Answers.{Answer, given, refused, refuseIf, found, _>>=_, _>>_}
-use Rattle.rules.specs.Tables.{ColumnSchema, Catalogue, columnNamed}
+use Rattle.rules.specs.Tables.{ColumnSchema, Catalogue, sameId, columnNamed}
 use Rattle.rules.specs.Statements.{ColumnType, known, otherType, ColumnOption, ColumnDefinition, CreateTable}
 use Rattle.rules.specs.Names.{canonical}
+use Rattle.rules.specs.Theorems.Answered.{never-given, bind-given}
 use Rattle.rules.specs.Bound.{BoundStatement, boundCreateTable}
 use Rattle.rules.specs.Analyze.{
   OptionState,
@@ -38,10 +39,12 @@ use Rattle.rules.specs.Analyze.{
 }
 use Rattle.resolving.specs.Steps.{steps-joined}
 use Rattle.resolving.specs.Tables.{newName, new-joined, canonical-length}
-use Rattle.codec.specs.Layout.{listOf}
-use Rattle.value.specs.Parts.{columnSchema}
-use Rattle.bound.specs.Spelt.{column-length}
-use Rattle.bound.specs.Sizes.{no-parts-length, more-parts-length}
+use Rattle.codec.specs.Layout.{alone, listOf}
+use Rattle.value.specs.Parts.{columnId, columnSchema}
+use Rattle.bound.specs.Layout.{boundStatement}
+use Rattle.bound.specs.Made.{columnIds}
+use Rattle.bound.specs.Spelt.{column-length, ids-length}
+use Rattle.bound.specs.Sizes.{no-parts-length, more-parts-length, create-table-length}
 
 -- ---- one option
 
@@ -201,6 +204,19 @@ create-steps cat c =
     ap (λ (a : Answer BoundStatement). refuseIf (c .ifNotExists) UnsupportedSql >> (refuseIf (c .asQuery) UnsupportedSql >> (refuseIf (c .otherFeature) UnsupportedSql >> a)))
     (new-joined cat (c .name) (defineTable c))
 
+-- a key's ids are as many as its names
+pub keys-length : (cs : List ColumnSchema) (before : List ColumnId) (ns : List Text) {ids : List ColumnId} → keyIds cs before ns ≡ given ids → length ids ≡ length before + length ns
+unfolding keyIds
+keys-length cs before [] {ids} e = let z : before ≡ ids = cc in omega (arith, ap length z)
+keys-length cs before (n ∷ ns) {ids} e =
+    let a = bind-given (found (find (columnNamed n) cs) SchemaMismatch) (λ c. refuseIf (any (sameId (c .id)) before) ConstraintViolation >> keyIds cs (before ++ (c .id ∷ [])) ns) ids e in
+    go (a .0) (any (sameId (a .0 .id)) before) (λ h. keys-length cs (before ++ (a .0 .id ∷ [])) ns h) (a .2)
+  where
+    go : (c : ColumnSchema) (b : Bool) → (keyIds cs (before ++ (c .id ∷ [])) ns ≡ given ids → length ids ≡ length (before ++ (c .id ∷ [])) + length ns)
+        → (refuseIf b ConstraintViolation >> keyIds cs (before ++ (c .id ∷ [])) ns) ≡ given ids → length ids ≡ length before + length (n ∷ ns)
+    go c true f e = absurd (never-given e)
+    go c false f e = omega (arith, f e, length-append before (c .id ∷ []))
+
 -- ---- how long the list of the columns is
 
 name-length : (i : ℕ) (c : ColumnDefinition) → length (schema i c .name) ≡ length (c .name .text)
@@ -217,3 +233,20 @@ room-is ids i [] = no-parts-length (columnSchema 4)
 room-is ids i (c ∷ cs) =
     more-parts-length (columnSchema 4) (outsideNull ids (schema i c)) (map (outsideNull ids) (schemas (i + 1) cs))
     ∙ omega (arith, column-length (outsideNull ids (schema i c)), name-length i c, room-is ids (i + 1) cs)
+
+-- ---- how long the whole is
+
+ids-back : (ids : List ColumnId) → columnIds (map (λ (i : ColumnId). i .0) ids) ≡ ids
+ids-back [] = refl
+ids-back (i ∷ ids) = ap (λ (l : List ColumnId). i ∷ l) (ids-back ids)
+
+pub ids-size : (ids : List ColumnId) → length (listOf 4 (alone columnId) .write ids) ≡ 4 + 12 * length ids
+ids-size ids =
+    ap (λ (l : List ColumnId). length (listOf 4 (alone columnId) .write l)) (sym (ids-back ids)) ∙ ids-length (map (λ (i : ColumnId). i .0) ids)
+    ∙ ap (λ (n : ℕ). 4 + 12 * n) (length-map ids (λ (i : ColumnId). i .0))
+
+pub created-size : (t : Text) (cs : List ColumnDefinition) (ids : List ColumnId)
+    → length (boundStatement .write (created t (schemas 0 cs) ids)) ≡ 17 + length t + roomFor cs + (4 + 12 * length ids)
+created-size t cs ids =
+    create-table-length (record { tableName = t; columns = map (outsideNull ids) (schemas 0 cs); key = ids })
+    ∙ omega (arith, room-is ids 0 cs, ids-size ids)

@@ -76,7 +76,7 @@ fn take_option(state: OptionState, o: &[u8]) -> Step
     Step::Refused(Class::UnsupportedSql)
 }
 
-fn take_options(s: &[u8]) -> Step
+pub fn take_options(s: &[u8]) -> Step
     requires { ⌜ Is (listOf 2 option) (now s) ⌝ }
     ensures { λ r. ⌜ ((os : List ColumnOption) → Holds (listOf 2 option) (now (s .entry)) os → stepOf r ≡ options noOptions os) ⌝ }
 {
@@ -228,7 +228,7 @@ fn register_all(s: &[u8], before: Key) -> Keyed
 }
 
 // Where the key of a CREATE TABLE stands, once its columns and its constraints are read.
-fn find_key(s: &[u8], place: Repeat) -> Keyed
+pub fn find_key(s: &[u8], place: Repeat) -> Keyed
     requires { ⌜ Is create (now s) × PlaceIn (now s) place ⌝ }
     ensures { λ r. ⌜ ((v : CreateTable) → Holds create (now (s .entry)) v → ReadsKey v r) ⌝ }
 {
@@ -241,7 +241,7 @@ fn find_key(s: &[u8], place: Repeat) -> Keyed
 // ---- the names of the key
 
 // The first column of a name.
-fn column_called(s: &[u8], n: &[u8]) -> Place
+pub fn column_called(s: &[u8], n: &[u8]) -> Place
     requires { ⌜ FewColumns (now s) × ShortIn name some (now n) ⌝ }
     ensures { λ r. ⌜ ((cs : List ColumnDefinition) (w : Name) → Holds (listOf 2 columnDefinition) (now (s .entry)) cs → Holds name (now (n .entry)) w
         → FindsColumn cs (canonical w) r) ⌝ }

@@ -79,7 +79,7 @@ pub fn beyond_ascii(quoted: bool, s: &[u8]) -> bool
 }
 
 // A name as it is compared, at the front of the room that the longest one takes.
-fn compared(quoted: bool, name: &[u8]) -> [u8; 128]
+pub fn compared(quoted: bool, name: &[u8]) -> [u8; 128]
     requires { ⌜ length (now name) ≤ 128 ⌝ }
     ensures { λ r. ⌜ take (length (now (name .entry))) r ≡ canonical (named quoted (now (name .entry))) ⌝ }
 {

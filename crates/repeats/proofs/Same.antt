@@ -1,29 +1,25 @@
 -- Two entries by their names, and the name inside of what holds one.
 -- Assumes nothing.
-use mathlib.Core.Path.{_≡_, refl, sym, ap, ap₂, _∙_}
+use mathlib.Core.Path.{_≡_, refl, sym, ap₂, _∙_}
 use mathlib.Core.Bool.{Bool, false}
 use mathlib.Core.List.{List}
 use mathlib.Core.Option.{Option, none, some}
-use Prim.Native.Nat.{ℕ, _≤_}
+use Prim.Native.Nat.{ℕ}
 use native.Mathlib.Omega.{arith}
-use borrow.Author.Tests.{leb-true}
-use lib.ListN.{length}
 use Rattle.codec.specs.Format.{Format}
-use Rattle.bundle.specs.Held.{Holds, held, held-once, is-held}
+use Rattle.bundle.specs.Held.{Holds}
 use Rattle.names.specs.Compared.{named}
 use Rattle.rules.specs.Lists.{Text}
 use Rattle.rules.specs.Lists as lists
 use Rattle.rules.specs.Names.{canonical}
-use Rattle.rules.specs.Statements.{Name, ObjectName, plain, qualified, ColumnDefinition, Target, target, tuple, Assignment}
-use Rattle.statement.specs.Layout.{name, objectName, columnDefinition, assignmentTarget, assignment}
+use Rattle.rules.specs.Statements.{Name, ObjectName, plain, qualified, Target, target, tuple}
+use Rattle.statement.specs.Layout.{name, objectName, assignmentTarget}
 use Rattle.statement.specs.NamesHeld.{objectNameNo}
 use Rattle.update.specs.Held.{targetNo}
-use Rattle.repeats.specs.Entries.{objectIn, targetIn, alikeNames, shortName, ShortIn}
+use Rattle.repeats.specs.Short.{Inside}
+use Rattle.repeats.specs.Entries.{objectIn, targetIn, alikeNames}
 
 -- ---- a name
-
-pub text-short : {p t : List ℕ} → ShortIn name some p → ((v : Name) → Holds name p v → t ≡ v .text) → length t ≤ 128
-text-short {p} {t} s g = held (s .is) (λ v h. omega (arith, ap length (g v h), leb-true (length (v .text)) 128 (s .short v h)))
 
 pub names-alike : {v w : Name} {q₁ q₂ r : Bool} {t₁ t₂ : Text} → r ≡ lists.same (canonical (named q₁ t₁)) (canonical (named q₂ t₂))
     → q₁ ≡ v .quoted → t₁ ≡ v .text → q₂ ≡ w .quoted → t₂ ≡ w .text → r ≡ alikeNames (some v) (some w)
@@ -35,19 +31,7 @@ alike-none (some n) = refl
 
 -- ---- the name inside of something
 
--- what p holds has the name of what q holds
-pub record Inside {A B : Type 0} (f : Format A) (g : A → Option Name) (d : Format B) (k : B → Option Name) (p q : List ℕ) : Type 0 where
-  pub at : (v : A) → Holds f p v → (w : B) × Holds d q w × (g v ≡ k w)
-
 module _ {A B : Type 0} {f : Format A} {g : A → Option Name} {d : Format B} {k : B → Option Name} where
-  pub short-inside : {p q : List ℕ} → ShortIn f g p → Inside f g d k p q → ShortIn d k q
-  short-inside {p} {q} s i = record {
-    is = held (s .is) (λ v h. is-held {f = d} (i .at v h .1));
-    short = λ w h. held (s .is) (λ v l.
-        let j = i .at v l in
-        ap (λ (x : B). shortName (k x)) (held-once d h (j .1)) ∙ ap shortName (sym (j .2)) ∙ s .short v l);
-  }
-
   pub alike-inside : {p₁ p₂ q₁ q₂ : List ℕ} {r : Bool} → Inside f g d k p₁ q₁ → Inside f g d k p₂ q₂
       → ((v w : B) → Holds d q₁ v → Holds d q₂ w → r ≡ alikeNames (k v) (k w))
       → (v w : A) → Holds f p₁ v → Holds f p₂ w → r ≡ alikeNames (g v) (g w)
@@ -83,12 +67,3 @@ in-target {p} {q} c z g = record { at = go }
     go : (v : Target) → Holds assignmentTarget p v → (w : ObjectName) × Holds objectName q w × (targetIn v ≡ objectIn w)
     go tuple h = absurd (z (c tuple h))
     go (target n) h = (n, g n h, refl)
-
--- ---- the parts of records
-
-pub in-column : {p q : List ℕ} → ((v : ColumnDefinition) → Holds columnDefinition p v → Holds name q (v .name)) → Inside columnDefinition (λ v. some (v .name)) name some p q
-in-column g = record { at = λ v h. (v .name, g v h, refl) }
-
-pub in-assignment : {p q : List ℕ} → ((v : Assignment) → Holds assignment p v → Holds assignmentTarget q (v .target))
-    → Inside assignment (λ v. targetIn (v .target)) assignmentTarget targetIn p q
-in-assignment g = record { at = λ v h. (v .target, g v h, refl) }

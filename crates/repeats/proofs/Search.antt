@@ -9,13 +9,12 @@ use native.Mathlib.Omega.{arith}
 use lib.ListN.{length, take, drop, length-map}
 use Rattle.codec.specs.Layout.{listOf}
 use Rattle.bundle.specs.Bundle.{Stepped}
-use Rattle.bundle.specs.Decides.{and-of}
-use Rattle.bundle.specs.Held.{Holds, Along, Turn, turn, part-is, held, held-once, list-count, same}
-use Rattle.rules.specs.Lists.{Text, any, all}
+use Rattle.bundle.specs.Held.{Holds, Along, Turn, turn, list-count, same}
+use Rattle.rules.specs.Lists.{Text, any}
 use Rattle.repeats.specs.declared.Repeat.the-variants.{Nowhere, At}
 use Rattle.repeats.specs.declared.Of.{Of}
 use Rattle.repeats.specs.Repeats.{alike, any-last, take-next, drop-map, Reached, reached-none, reached-hit, reached-on, reached-end}
-use Rattle.repeats.specs.Entries.{Entry, form, nameIn, entry, shortName, ShortIn, AllShort, Compares, FindsRepeat}
+use Rattle.repeats.specs.Entries.{Entry, form, entry, Compares, FindsRepeat}
 
 module _ {A : Type 0} where
   any-take : (p : A → Bool) (j i : ℕ) (l : List A) (x : A) (m : List A) → drop j l ≡ x ∷ m → j < i → p x ≡ true → any p (take i l) ≡ true
@@ -23,22 +22,6 @@ module _ {A : Type 0} where
   any-take p zero (suc i) l x m e h q = ap (λ (k : List A). any p (take (suc i) k)) e ∙ ap (λ (b : Bool). b || any p (take i m)) q
   any-take p (suc j) (suc i) [] x m e h q = absurd (omega (arith, ap length e))
   any-take p (suc j) (suc i) (y ∷ l) x m e h q = ap (λ (b : Bool). p y || b) (any-take p j i l x m e (omega arith) q) ∙ or-true (p y)
-
-  all-turn : (p : A → Bool) (i : ℕ) (l : List A) (x : A) (m : List A) → all p l ≡ true → drop i l ≡ x ∷ m → p x ≡ true
-  all-turn p zero [] x m h e = absurd (omega (arith, ap length e))
-  all-turn p (suc i) [] x m h e = absurd (omega (arith, ap length e))
-  all-turn p zero (y ∷ l) x m h e = and-of (p x) (all p m) (ap (all p) (sym e) ∙ h) .0
-  all-turn p (suc i) (y ∷ l) x m h e = all-turn p i l x m (and-of (p y) (all p l) h .1) e
-
-module _ {o : Of} {s : List ℕ} where
-  -- an entry of the list
-  pub short-part : {i at e : ℕ} → AllShort o s → Stepped 2 s i at e → ShortIn (form o) (nameIn o) (take (e - at) (drop at s))
-  short-part {i} {at} {e} a d = record {
-    is = part-is d (a .is);
-    short = λ v h. held (a .is) (λ vs k.
-        let t = turn d k in
-        all-turn (λ w. shortName (nameIn o w)) i vs v (drop (i + 1) vs) (a .short vs k) (t .rest ∙ ap (λ (w : Entry o). w ∷ drop (i + 1) vs) (held-once (form o) (t .holds) h)));
-  }
 
 -- the names of the entries
 abbrev names : (o : Of) → List (Entry o) → List (Option Text)

@@ -1,2 +1,3 @@
 pub mod Repeats
 pub mod Entries
+pub mod Short

@@ -1,14 +1,13 @@
 -- The whole UPDATE: the rules' steps one by one, as the code makes them.
 -- Assumes nothing.
-use mathlib.Core.Path.{_≡_, refl, sym, _∙_, subst}
-use mathlib.Core.Bool.{true, false, true≢false}
+use mathlib.Core.Path.{_≡_, refl, _∙_, subst}
+use mathlib.Core.Bool.{true, false}
 use mathlib.Core.List.{List, [], _∷_}
-use mathlib.Core.Option.{Option, none, some}
-use Prim.Native.Nat.{ℕ, _+_, _-_, _≤_}
+use mathlib.Core.Option.{none, some}
+use Prim.Native.Nat.{ℕ, _+_, _-_}
 use native.Mathlib.Omega.{arith}
 use lib.ListN.{length, take, drop}
 use Rattle.codec.specs.Layout.{listOf}
-use Rattle.bundle.specs.Bundle.{isThere}
 use Rattle.bundle.specs.Held.{Is, Holds, is-held, held-once}
 use Rattle.bound.specs.Columns.{boundTableRef}
 use Rattle.bound.specs.Expression.{boundExpression}
@@ -16,8 +15,7 @@ use Rattle.bound.specs.Layout as layout
 use Rattle.bound.specs.Layout.{boundStatement}
 use Rattle.bound.specs.Sizes.{update-length}
 use Rattle.catalogue.specs.Layout.{table, catalogue}
-use Rattle.expression.specs.Names.{Within}
-use Rattle.resolving.specs.Given.{resolved-sound, resolved-short, catalogue-sound}
+use Rattle.resolving.specs.Given.{resolved-sound, catalogue-sound}
 use Rattle.resolving.specs.Steps.{classed, step-on, step-off, test-on, test-off, found-on, found-off, TableGiven}
 use Rattle.rules.specs.declared.Class.the-variants.{UnsupportedSql, InvalidArgument}
 use Rattle.rules.specs.declared.Refusal.{Refusal}
@@ -25,8 +23,7 @@ use Rattle.rules.specs.Answers.{Answer, given, refused, _>>=_}
 use Rattle.rules.specs.Analyze.{assignments, resolveDirectTable, analyzeUpdate}
 use Rattle.rules.specs.Bound.{BoundAssignment, BoundExpr, BoundStatement, boundUpdate}
 use Rattle.rules.specs.Fits.{bindBooleanFilter}
-use Rattle.rules.specs.Limits.{tableNames}
-use Rattle.rules.specs.Lists.{isEmpty, all}
+use Rattle.rules.specs.Lists.{isEmpty}
 use Rattle.rules.specs.Lookup.{boundTable}
 use Rattle.rules.specs.Statements.{Assignment, TableWithJoins, Update, Expr}
 use Rattle.rules.specs.Tables.{TableSchema, Catalogue, soundTable}
@@ -60,23 +57,17 @@ pub updated-length : (t : TableSchema) (bs : List BoundAssignment) (x : BoundExp
 updated-length t bs x o p q =
     omega (arith, o, p, q, update-length (record { table = boundTable t; assignments = bs; filter = x }))
 
-pub table-long : (t : TableSchema) {n : ℕ} → n ≡ length (t .name) → length (boundTable t .name) ≡ n
-unfolding boundTable
-table-long t e = sym e
-
--- the bytes t hold a sound table with a short name
+-- the bytes t hold a sound table
 pub record Sound (t : List ℕ) : Type 0 where
   pub is : Is table t
   pub sound : (v : TableSchema) → Holds table t v → soundTable v ≡ true
-  pub short : (v : TableSchema) → Holds table t v → length (v .name) ≤ 128
 
 -- as one that was found is
-pub given-sound : {c : List ℕ} {cat : Catalogue} (w : TableWithJoins) {b e : ℕ} → Holds catalogue c cat → all Within (tableNames w) ≡ true
-    → TableGiven c (resolveDirectTable cat w) b e → Sound (take (e - b) (drop b c))
-given-sound {c} {cat} w {b} {e} h n g = record {
+pub given-sound : {c : List ℕ} {cat : Catalogue} (w : TableWithJoins) {b e : ℕ} → Holds catalogue c cat → TableGiven c (resolveDirectTable cat w) b e
+    → Sound (take (e - b) (drop b c))
+given-sound {c} {cat} w {b} {e} h g = record {
   is = is-held {f = table} (g .lies .holds);
   sound = λ v k. subst (λ (t : TableSchema). soundTable t ≡ true) (held-once table (g .lies .holds) k) (resolved-sound cat w (g .gives) (catalogue-sound c h));
-  short = λ v k. subst (λ (t : TableSchema). length (t .name) ≤ 128) (held-once table (g .lies .holds) k) (resolved-short cat w (g .gives) n);
 }
 
 -- ---- from the beginning
@@ -88,10 +79,6 @@ is-empty (x ∷ l) h = absurd (omega arith)
 pub not-empty : {A : Type 0} (l : List A) → (length l ≡ 0 → ⊥) → isEmpty l ≡ false
 not-empty [] h = absurd (h refl)
 not-empty (x ∷ l) h = refl
-
-pub is-none : {A : Type 0} (o : Option A) → isThere o ≡ false → o ≡ none
-is-none none h = refl
-is-none (some a) h = absurd (true≢false h)
 
 module _ (cat : Catalogue) (u : Update) where
   pub update-from : u .from ≡ true → analyzeUpdate cat u ≡ refused (classed UnsupportedSql)

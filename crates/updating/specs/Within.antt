@@ -3,26 +3,25 @@
 use mathlib.Core.Path.{_≡_, refl, sym, ap, _∙_, subst}
 use mathlib.Core.Bool.{Bool, true, _&&_, and-true}
 use mathlib.Core.List.{List, [], _∷_, _++_}
-use mathlib.Core.Option.{Option, some}
 use Prim.Native.Nat.{ℕ, zero, suc, _-_, _≤_}
 use native.Mathlib.Omega.{arith}
 use borrow.Author.Tests.{leb-true}
 use lib.ListN.{length, take, drop}
 use Rattle.codec.specs.Layout.{listOf}
-use Rattle.bundle.specs.Bundle.{isThere, Stepped}
+use Rattle.bundle.specs.Bundle.{Stepped}
 use Rattle.bundle.specs.Decides.{and-of}
-use Rattle.bundle.specs.Laws.{some-there}
 use Rattle.bundle.specs.Held.{Is, Holds, is-held, held, held-once, turn, part-is}
 use Rattle.expression.specs.Expression.{expression}
 use Rattle.expression.specs.Names.{Within}
 use Rattle.statement.specs.Layout.{objectName, condition, assignmentTarget, assignment, updating}
-use Rattle.filtering.specs.Short.{ShortExpression, short-expression, short-condition}
+use Rattle.filtering.specs.Short.{ShortExpression, short-expression}
+use Rattle.filtering.specs.There.{conditionNames, ShortCondition, condition-within}
 use Rattle.repeats.specs.declared.Of.the-variants as of
 use Rattle.repeats.specs.Entries.{objectIn, targetIn, nameIn, shortName, ShortIn, AllShort}
 use Rattle.resolving.specs.Short.{ShortName, short-name, all-front, all-back, held-within}
 use Rattle.rules.specs.Lists.{all}
 use Rattle.rules.specs.Limits.{atMost, gather, ifThere, expressionNames, objectNames, tableNames, targetNames, assignmentNames, heldByUpdate, heldWithin}
-use Rattle.rules.specs.Statements.{ObjectName, plain, qualified, Target, target, tuple, Assignment, Update, Expr}
+use Rattle.rules.specs.Statements.{ObjectName, plain, qualified, Target, target, tuple, Assignment, Update}
 
 -- ---- all of a list
 
@@ -130,12 +129,8 @@ module _ (v : Update) (w : heldWithin (heldByUpdate v) ≡ true) where
       gathered Within assignmentNames (v .assignments)
       (all-front Within (gather assignmentNames (v .assignments)) (gather expressionNames (ifThere (v .condition))) behind-table)
 
-  -- the names of its condition
-  update-filter : (x : Expr) → v .condition ≡ some x → all Within (expressionNames x) ≡ true
-  update-filter x e =
-      all-front Within (expressionNames x) []
-      (ap (λ o. all Within (gather expressionNames (ifThere o))) (sym e)
-      ∙ all-back Within (gather assignmentNames (v .assignments)) (gather expressionNames (ifThere (v .condition))) behind-table)
+  update-conditioned : conditionNames (v .condition) ≡ true
+  update-conditioned = all-back Within (gather assignmentNames (v .assignments)) (gather expressionNames (ifThere (v .condition))) behind-table
 
 pub update-assignments : {u p : List ℕ} → Limited u → Is updating u → ((v : Update) → Holds updating u v → Holds (listOf 2 assignment) p (v .assignments)) → ShortAssignments p
 update-assignments {u} {p} l i k = held i (λ v e.
@@ -146,8 +141,5 @@ update-assignments {u} {p} l i k = held i (λ v e.
       short = λ xs q. ap (all ShortNames) (held-once (listOf 2 assignment) {s = p} q (k v e)) ∙ update-assigned v w;
     })
 
--- the condition, where there is one
-pub update-condition : {u p : List ℕ} → Limited u → Is updating u → ((v : Update) → Holds updating u v → Holds condition p (v .condition))
-    → ((o : Option Expr) → Holds condition p o → isThere o ≡ true) → ShortExpression p
-update-condition {u} {p} l i k t = held i (λ v e.
-    some-there (v .condition) (t (v .condition) (k v e)) (λ x q. short-condition (k v e ∙ ap some q) (update-filter v (l .within v e) x q)))
+pub update-condition : {u p : List ℕ} → Limited u → Is updating u → ((v : Update) → Holds updating u v → Holds condition p (v .condition)) → ShortCondition p
+update-condition {u} {p} l i k = held i (λ v e. condition-within p (k v e) (update-conditioned v (l .within v e)))

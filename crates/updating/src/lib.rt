@@ -1,15 +1,14 @@
 // UPDATE over a catalogue: its assignments in their order, then its condition.
 use bound::columns::column_ref_len;
-use bound::columns::table_ref_len;
 use bound::fields::count_len;
 use catalogue::Column;
 use catalogue::Named;
 use catalogue::find_column;
 use catalogue::in_key;
-use catalogue::table_name;
 use filtering::filter_size;
 use marking::Sized;
 use marking::expression_size;
+use referring::table_size;
 use repeats::Of;
 use repeats::first_repeated;
 use repeats::is_at;
@@ -174,10 +173,7 @@ fn update_size(t: &[u8], list: &[u8], w: &[u8]) -> Measured
 {
     match assignments_size(t, list) {
         Measured::Is(a) => match filter_size(t, w) {
-            Measured::Is(f) => {
-                let name = table_name(t);
-                Measured::Is(17 + table_ref_len(name.len()) + a + f)
-            }
+            Measured::Is(f) => Measured::Is(17 + table_size(t) + a + f),
             Measured::Refused(r) => Measured::Refused(r),
         },
         Measured::Refused(r) => Measured::Refused(r),

@@ -11,7 +11,8 @@ use Rattle.rules.specs.Statements.{Name}
 use Rattle.rules.specs.Tables.{columnNamed}
 use Rattle.statement.specs.Layout.{name, columnDefinition}
 use Rattle.creating.specs.Defined.{schemas}
-use Rattle.creating.proofs.Names.{schemas-hit, schemas-miss, schemas-over, short-column}
+use Rattle.repeats.specs.Short.{short-part, short-inside, in-column}
+use Rattle.creating.proofs.Names.{schemas-hit, schemas-miss, schemas-over}
 use Rattle.creating.proofs.column_called.Statement.{statement}
 use Rattle.creating.proofs.column_called.Tie as tie
 
@@ -46,7 +47,7 @@ column-name-requires : tie.Need-column-name-requires Inv-loop μ-loop
 column-name-requires c κs = part-is (c .before .next .ensures) (c .before .before .before .before .before .before .before .before .pre .0 .short .is)
 
 are-alike-names-requires : tie.Need-are-alike-names-requires Inv-loop μ-loop
-are-alike-names-requires c κs = (c .before .before .before .before .before .before .before .before .before .pre .1, short-column (c .before .before .before .before .before .before .before .before .before .pre .0 .short) (c .before .before .next .ensures) (c .column-name .ensures))
+are-alike-names-requires c κs = (c .before .before .before .before .before .before .before .before .before .pre .1, short-inside (short-part (c .before .before .before .before .before .before .before .before .before .pre .0 .short) (c .before .before .next .ensures)) (in-column (c .column-name .ensures)))
 
 returns : tie.Need-returns Inv-loop μ-loop
 returns c = λ cs w h k.

@@ -12,7 +12,8 @@ use Rattle.bundle.specs.Held.{Holds, Along, along, along-on, list-bundle, list-
 use Rattle.rules.specs.Statements.{ColumnDefinition}
 use Rattle.statement.specs.Layout.{name, columnDefinition}
 use Rattle.creating.specs.Defined.{roomFor}
-use Rattle.creating.proofs.Names.{short-column, short-length, room-next, room-end}
+use Rattle.repeats.specs.Short.{short-part, short-length, short-inside, in-column}
+use Rattle.creating.proofs.Names.{room-next, room-end}
 use Rattle.creating.proofs.columns_len.Statement.{statement}
 use Rattle.creating.proofs.columns_len.Tie as tie
 
@@ -47,17 +48,17 @@ column-name-requires : tie.Need-column-name-requires Inv-loop μ-loop
 column-name-requires c κs = part-is (c .before .next .ensures) (c .before .before .before .before .before .before .before .pre .short .is)
 
 name-text-requires : tie.Need-name-text-requires Inv-loop μ-loop
-name-text-requires c κs = short-column (c .before .before .before .before .before .before .before .before .pre .short) (c .before .before .next .ensures) (c .column-name .ensures) .is
+name-text-requires c κs = short-inside (short-part (c .before .before .before .before .before .before .before .before .pre .short) (c .before .before .next .ensures)) (in-column (c .column-name .ensures)) .is
 
 column-schema-len-requires : tie.Need-column-schema-len-requires Inv-loop μ-loop
-column-schema-len-requires c κs = let w = short-length (short-column (c .before .before .before .before .before .before .before .before .before .pre .short) (c .before .before .before .next .ensures) (c .before .column-name .ensures)) (c .name-text .ensures) in omega (arith, w)
+column-schema-len-requires c κs = let w = short-length (short-inside (short-part (c .before .before .before .before .before .before .before .before .before .pre .short) (c .before .before .before .next .ensures)) (in-column (c .before .column-name .ensures))) (c .name-text .ensures) in omega (arith, w)
 
 add-sum : tie.Need-add-sum Inv-loop μ-loop
-add-sum c = let w = short-length (short-column (c .before .before .before .before .before .before .before .before .before .before .pre .short) (c .before .before .before .before .next .ensures) (c .before .before .column-name .ensures)) (c .before .name-text .ensures) in omega (arith, c .column-schema-len .ensures .0, w)
+add-sum c = let w = short-length (short-inside (short-part (c .before .before .before .before .before .before .before .before .before .before .pre .short) (c .before .before .before .before .next .ensures)) (in-column (c .before .before .column-name .ensures))) (c .before .name-text .ensures) in omega (arith, c .column-schema-len .ensures .0, w)
 
 add-sum-2 : tie.Need-add-sum-2 Inv-loop μ-loop
 add-sum-2 c =
-    let w = short-length (short-column (c .before .before .before .before .before .before .before .before .before .before .pre .short) (c .before .before .before .before .next .ensures) (c .before .before .column-name .ensures)) (c .before .name-text .ensures) in
+    let w = short-length (short-inside (short-part (c .before .before .before .before .before .before .before .before .before .before .pre .short) (c .before .before .before .before .next .ensures)) (in-column (c .before .before .column-name .ensures))) (c .before .name-text .ensures) in
     let l = c .before .before .before .before .before .before .loop in
     omega (arith, c .column-schema-len .ensures .0, w, l .inv .1, l .inv .0 .count, c .before .before .before .before .before .before .before .before .before .before .pre .few, c .before .before .before .before .before .loop-test .taken)
 
@@ -69,7 +70,7 @@ loop-less c = search needs
 
 loop-again : tie.Need-loop-again Inv-loop μ-loop
 loop-again c =
-    let w = short-length (short-column (c .before .before .before .before .before .before .before .before .before .before .pre .short) (c .before .before .before .before .next .ensures) (c .before .before .column-name .ensures)) (c .before .name-text .ensures) in
+    let w = short-length (short-inside (short-part (c .before .before .before .before .before .before .before .before .before .before .pre .short) (c .before .before .before .before .next .ensures)) (in-column (c .before .before .column-name .ensures))) (c .before .name-text .ensures) in
     let l = c .before .before .before .before .before .before .loop in
     let d = c .before .before .before .before .next .ensures in (
       along-on (l .inv .0) d,

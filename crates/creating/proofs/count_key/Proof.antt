@@ -9,8 +9,8 @@ use Rattle.statement.specs.Layout.{constraint}
 use Rattle.creating.specs.declared.Key.{Key}
 use Rattle.creating.specs.Keys.{NamedAt}
 use Rattle.creating.specs.Within.{few-columns, few-names}
-use Rattle.creating.proofs.Names.{part-at}
-use Rattle.creating.proofs.Whole.{count-none, count-column, count-list, constraint-in, part-shows, part-holds}
+use Rattle.creating.specs.Places.{part-at, part-holds, constraint-in, part-shows}
+use Rattle.creating.proofs.Whole.{count-none, count-column, count-list}
 use borrow.Author.Needs.{needs}
 use Rattle.creating.proofs.count_key.Statement.{statement}
 use Rattle.creating.proofs.count_key.Tie as tie

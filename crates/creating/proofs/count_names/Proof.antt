@@ -14,7 +14,8 @@ use Rattle.rules.specs.Names.{canonical}
 use Rattle.rules.specs.Statements.{Name, ColumnDefinition}
 use Rattle.statement.specs.Layout.{name, columnDefinition}
 use Rattle.creating.specs.Keys.{counted, FindsColumn}
-use Rattle.creating.proofs.Names.{NamesTo, names-none, names-unknown, names-repeated, names-on, names-end, short-name-part}
+use Rattle.repeats.specs.Short.{short-part}
+use Rattle.creating.proofs.Names.{NamesTo, names-none, names-unknown, names-repeated, names-on, names-end}
 use Rattle.creating.proofs.count_names.Statement.{statement}
 use Rattle.creating.proofs.count_names.Tie as tie
 
@@ -49,7 +50,7 @@ part-column-called-end : tie.Need-part-column-called-end Inv-loop μ-loop
 part-column-called-end c = search needs
 
 column-called-requires : tie.Need-column-called-requires Inv-loop μ-loop
-column-called-requires c κs = (c .before .before .before .before .before .before .before .before .before .pre .0, short-name-part (c .before .before .before .before .before .before .before .before .before .pre .1 .short) (c .before .next .ensures))
+column-called-requires c κs = (c .before .before .before .before .before .before .before .before .before .pre .0, short-part (c .before .before .before .before .before .before .before .before .before .pre .1 .short) (c .before .next .ensures))
 
 enum-told : tie.Need-enum-told Inv-loop μ-loop
 enum-told c = search needs

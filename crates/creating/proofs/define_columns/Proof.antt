@@ -11,7 +11,8 @@ use Rattle.bundle.specs.Held.{Holds, Along, along, along-on, list-bundle, list-
 use Rattle.rules.specs.Statements.{ColumnDefinition}
 use Rattle.statement.specs.Layout.{columnDefinition}
 use Rattle.repeats.specs.Repeats.{isAt}
-use Rattle.creating.proofs.Columns.{judged-at, inlined-off, inlined-on, ColumnsTo, columns-none, columns-stop, columns-on, columns-end}
+use Rattle.creating.specs.Columns.{ColumnsTo, columns-none, columns-stop, columns-on, columns-end}
+use Rattle.creating.proofs.Columns.{judged-at, inlined-off, inlined-on}
 use Rattle.creating.proofs.define_columns.Statement.{statement}
 use Rattle.creating.proofs.define_columns.Tie as tie
 

@@ -6,7 +6,8 @@ use Prim.Native.Nat.{ℕ}
 use denote.Ref.{now}
 use Rattle.repeats.specs.declared.Of.{Of}
 use Rattle.repeats.specs.Entries.{form, nameIn, ShortIn, Compares}
-use Rattle.repeats.proofs.Same.{short-inside, alike-inside, in-column, in-assignment}
+use Rattle.repeats.specs.Short.{short-inside, in-column, in-assignment}
+use Rattle.repeats.proofs.Same.{alike-inside}
 use borrow.Author.Needs.{needs}
 use Rattle.repeats.proofs.are_alike.Statement.{statement}
 use Rattle.repeats.proofs.are_alike.Tie as tie

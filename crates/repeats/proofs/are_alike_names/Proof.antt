@@ -1,6 +1,7 @@
 -- `repeats::are_alike_names` meets its contract.
 -- Assumes nothing.
-use Rattle.repeats.proofs.Same.{text-short, names-alike}
+use Rattle.repeats.specs.Short.{short-length}
+use Rattle.repeats.proofs.Same.{names-alike}
 use borrow.Author.Needs.{needs}
 use Rattle.repeats.proofs.are_alike_names.Statement.{statement}
 use Rattle.repeats.proofs.are_alike_names.Tie as tie
@@ -18,7 +19,7 @@ name-text-requires-2 : tie.Need-name-text-requires-2
 name-text-requires-2 c κs = search needs
 
 are-same-name-requires : tie.Need-are-same-name-requires
-are-same-name-requires c κs = (text-short (c .before .before .before .before .before .before .pre .0) (c .before .before .name-text .ensures), text-short (c .before .before .before .before .before .before .pre .1) (c .name-text2 .ensures))
+are-same-name-requires c κs = (short-length (c .before .before .before .before .before .before .pre .0) (c .before .before .name-text .ensures), short-length (c .before .before .before .before .before .before .pre .1) (c .name-text2 .ensures))
 
 returns : tie.Need-returns
 returns c = λ v w h k. names-alike (c .are-same-name .ensures) (c .before .before .before .before .name-is-quoted .ensures v h) (c .before .before .before .name-text .ensures v h) (c .before .before .name-is-quoted2 .ensures w k) (c .before .name-text2 .ensures w k)

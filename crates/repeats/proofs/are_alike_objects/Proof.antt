@@ -2,7 +2,8 @@
 -- Assumes nothing.
 use mathlib.Core.Path.{sym, ap, _∙_}
 use Rattle.repeats.specs.Entries.{alikeNames, objectIn}
-use Rattle.repeats.proofs.Same.{alike-none, short-inside, alike-inside, no-object, in-object}
+use Rattle.repeats.specs.Short.{short-inside}
+use Rattle.repeats.proofs.Same.{alike-none, alike-inside, no-object, in-object}
 use borrow.Author.Needs.{needs}
 use Rattle.repeats.proofs.are_alike_objects.Statement.{statement}
 use Rattle.repeats.proofs.are_alike_objects.Tie as tie

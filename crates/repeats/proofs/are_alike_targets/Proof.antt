@@ -2,7 +2,8 @@
 -- Assumes nothing.
 use mathlib.Core.Path.{sym, ap, _∙_}
 use Rattle.repeats.specs.Entries.{alikeNames, targetIn}
-use Rattle.repeats.proofs.Same.{alike-none, short-inside, alike-inside, no-target, in-target}
+use Rattle.repeats.specs.Short.{short-inside}
+use Rattle.repeats.proofs.Same.{alike-none, alike-inside, no-target, in-target}
 use borrow.Author.Needs.{needs}
 use Rattle.repeats.proofs.are_alike_targets.Statement.{statement}
 use Rattle.repeats.proofs.are_alike_targets.Tie as tie

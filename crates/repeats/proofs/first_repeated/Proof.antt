@@ -8,7 +8,8 @@ use native.Mathlib.Omega.{arith}
 use Rattle.bundle.specs.Held.{Along, along, along-on, list-bundle}
 use Rattle.repeats.specs.declared.Repeat.the-variants.{Nowhere}
 use Rattle.repeats.specs.Entries.{form}
-use Rattle.repeats.proofs.Search.{short-part, Searching, searching, LikeNone, like-none, like-none-on, repeat-found, searching-on, no-repeat}
+use Rattle.repeats.specs.Short.{short-part}
+use Rattle.repeats.proofs.Search.{Searching, searching, LikeNone, like-none, like-none-on, repeat-found, searching-on, no-repeat}
 use Rattle.repeats.proofs.first_repeated.Statement.{statement}
 use Rattle.repeats.proofs.first_repeated.Tie as tie
 

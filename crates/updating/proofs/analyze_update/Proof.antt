@@ -1,32 +1,28 @@
 -- `updating::analyze_update` meets its contract: the rules' tests in their order.
 -- Assumes nothing.
-use mathlib.Core.Path.{_≡_, sym, ap, _∙_}
-use mathlib.Core.Bool.{true, false}
-use mathlib.Core.Option.{Option, some}
+use mathlib.Core.Path.{_≡_, sym, _∙_}
+use mathlib.Core.Bool.{false}
 use Prim.Native.Nat.{_≤_}
 use lib.ListN.{length}
 use borrow.Author.Tests.{not-true, not-false}
-use Rattle.bundle.specs.Bundle.{isThere}
 use Rattle.bundle.specs.Held.{Holds, is-held, held, list-bundle, list-count}
-use Rattle.bundle.specs.Laws.{some-there}
 use Rattle.bound.specs.Layout.{boundStatement}
 use Rattle.catalogue.specs.Layout.{catalogue}
 use Rattle.catalogue.specs.Within.{catalogue-tables, catalogue-list}
 use Rattle.codec.specs.Layout.{listOf}
 use Rattle.statement.specs.Layout.{tableWithJoins, condition, assignment, updating}
-use Rattle.statement.specs.NamesHeld.{condition-holds}
+use Rattle.filtering.specs.There.{There, absent, present, there-is, there-reads, there-short}
 use Rattle.resolving.specs.Short.{update-short, short-table}
 use Rattle.resolving.specs.Steps.{sized-refused, sized-as, TableGiven, resolved-at, resolved-off}
 use Rattle.rules.specs.Analyze.{resolveDirectTable}
 use Rattle.rules.specs.Lists.{isEmpty}
-use Rattle.rules.specs.Statements.{Update, Expr}
+use Rattle.rules.specs.Statements.{Update}
 use Rattle.rules.specs.Tables.{Catalogue}
 use Rattle.updating.specs.Within.{update-assignments, update-condition}
 use Rattle.updating.specs.Updated.{
   given-sound,
   is-empty,
   not-empty,
-  is-none,
   update-from,
   update-returning,
   update-conflict,
@@ -67,8 +63,12 @@ lies c =
     held (p .0) (λ cat hc. held (p .1 .0) (λ v h. let l = found c cat v hc h .lies in (l .forth, l .within)))
 
 -- and there is a condition
-there : (c : tie.Else5) (o : Option Expr) → Holds condition (c .before .before .condition-of .result .now) o → isThere o ≡ true
-there c o h = sym (c .before .has-condition .ensures o h) ∙ not-false (c .before .has-condition .result) (c .if5 .left)
+there : (c : tie.Else5) → There (c .before .before .condition-of .result .now)
+there c =
+    let w = c .before .before .condition-of in
+    let p = c .before .before .before .before .before .before .before .before .before .before .before .before .before .before .before .before .before .before .before .pre in
+    present (w .result .now) (c .before .has-condition .ensures) (held (p .1 .0) (λ v h. is-held {f = condition} {s = w .result .now} (w .ensures v h)))
+    (not-false (c .before .has-condition .result) (c .if5 .left))
 
 has-from-requires : tie.Need-has-from-requires
 has-from-requires c κs = search needs
@@ -155,7 +155,7 @@ returns-5 c = λ cat v hc h.
     c .refuse5 .ensures
     ∙ sized-refused boundStatement
     (update-unconditioned cat v (from a v h) (returning a v h) (conflict a v h) (some-assigned t v h) (found s cat v hc h .gives)
-    (is-none (v .condition) (sym (o .has-condition .ensures (v .condition) (o .before .condition-of .ensures v h)) ∙ not-true (o .has-condition .result) (c .before .if5 .taken))))
+    (absent (o .before .condition-of .result .now) (o .has-condition .ensures) (not-true (o .has-condition .result) (c .before .if5 .taken)) (v .condition) (o .before .condition-of .ensures v h)))
 
 sub-update-size : tie.Need-sub-update-size
 sub-update-size c = lies (c .before .before .before .before) .0
@@ -170,10 +170,10 @@ update-size-requires : tie.Need-update-size-requires
 update-size-requires c κs =
     let s = c .before .before .before .before .before in
     let p = s .before .before .before .before .before .before .before .before .before .before .before .before .before .before .before .pre in (
-      held (p .0) (λ cat hc. held (p .1 .0) (λ v h. given-sound (v .table) hc (update-short v (p .1 .1 .within v h)) (found s cat v hc h))),
+      held (p .0) (λ cat hc. held (p .1 .0) (λ v h. given-sound (v .table) hc (found s cat v hc h))),
       (
         update-assignments (p .1 .1) (p .1 .0) (s .before .before .before .before .before .before .assignments .ensures),
-        update-condition (p .1 .1) (p .1 .0) (c .before .before .before .condition-of .ensures) (there (c .before)),
+        there-short (there (c .before)) (update-condition (p .1 .1) (p .1 .0) (c .before .before .before .condition-of .ensures)),
       ),
     )
 
@@ -185,11 +185,11 @@ returns-6 c = λ cat v hc h.
     let s = c .before .before .before .before .before .before in
     let t = s .before .before .before in
     let a = t .before .before .before in
-    let w = c .before .before .before .before .condition-of in
+    let w = there (c .before .before) in
     let g = found s cat v hc h in
-    some-there (v .condition) (there (c .before .before) (v .condition) (w .ensures v h)) (λ x e.
-    sized-as boundStatement (update-table cat v (from a v h) (returning a v h) (conflict a v h) (some-assigned t v h) (g .gives) e)
-    (c .update-size .ensures (g .value) (v .assignments) x (g .lies .holds) (a .assignments .ensures v h) (condition-holds (w .result .now) x (w .ensures v h ∙ ap some e))))
+    sized-as boundStatement
+    (update-table cat v (from a v h) (returning a v h) (conflict a v h) (some-assigned t v h) (g .gives) (there-is w (v .condition) (c .before .before .before .before .condition-of .ensures v h)))
+    (c .update-size .ensures (g .value) (v .assignments) (w .value) (g .lies .holds) (a .assignments .ensures v h) (there-reads w))
 
 returns-7 : tie.Need-returns-7
 returns-7 c = λ cat v hc h.

@@ -1,0 +1,137 @@
+-- The ids of a key, gathered one by one.
+-- Assumes nothing.
+use mathlib.Core.Path.{_≡_, refl, sym, ap, ap₂, _∙_, subst}
+use mathlib.Core.Bool.{Bool, true, false, _||_}
+use mathlib.Core.List.{List, [], _∷_, _++_, map, map-append}
+use mathlib.Core.Option.{Option, none, some, Option·some-injective, Option·none-ne-some}
+use Prim.Native.Nat.{ℕ, suc, _+_, _≤_, _<_}
+use native.Mathlib.Numerals.{add-one}
+use native.Mathlib.Omega.{arith}
+use lib.Dec.{eqb}
+use lib.ListN.{length, getD, take, drop, set, drop-of-length-le, length-drop, length-map}
+use lib.Seq.{drop-cons, take-suc-set, length-take-le}
+use Rattle.codec.specs.Layout.{listOf}
+use Rattle.bound.specs.Made.{columnIds}
+use Rattle.bundle.specs.Held.{Holds, held, list-count}
+use Rattle.repeats.specs.Repeats.{drop-next}
+use Rattle.repeats.specs.Entries.{ShortIn}
+use Rattle.rules.specs.declared.ColumnId.{ColumnId}
+use Rattle.rules.specs.declared.Class.the-variants.{SchemaMismatch, ConstraintViolation}
+use Rattle.rules.specs.Lists.{Text, any, find}
+use Rattle.rules.specs.Answers.{Answer, given, refuseIf, found, _>>=_, _>>_}
+use Rattle.rules.specs.Names.{canonical}
+use Rattle.rules.specs.Tables.{ColumnSchema, sameId, columnNamed}
+use Rattle.rules.specs.Statements.{Name, ColumnDefinition}
+use Rattle.rules.specs.Theorems.Answered.{never-given, bind-given}
+use Rattle.rules.specs.Analyze.{keyIds}
+use Rattle.statement.specs.Layout.{name, columnDefinition}
+use Rattle.creating.specs.declared.Place.{Place}
+use Rattle.creating.specs.declared.Place.the-variants as place
+use Rattle.creating.specs.Defined.{schema, schemas, keyOf, keys-length}
+use Rattle.creating.specs.Keys.{FindsColumn, ColumnFound}
+use Rattle.creating.specs.Within.{FewColumns}
+
+-- ---- some number
+
+module _ (p : ℕ → Bool) (s : List ℕ) (i : ℕ) where
+  any-at : i < length s → any p (drop i s) ≡ (p (getD s i 0) || any p (drop (i + 1) s))
+  any-at h = rw (drop-cons s i 0 h, add-one) refl
+
+  pub any-hit : i < length s → p (getD s i 0) ≡ true → any p (drop i s) ≡ true
+  any-hit h e = any-at h ∙ ap (λ (b : Bool). b || any p (drop (i + 1) s)) e
+
+  pub any-pass : i < length s → p (getD s i 0) ≡ false → any p (drop i s) ≡ any p (drop (i + 1) s)
+  any-pass h e = any-at h ∙ ap (λ (b : Bool). b || any p (drop (i + 1) s)) e
+
+  pub any-end : length s ≤ i → any p (drop i s) ≡ false
+  any-end h = ap (any p) (drop-of-length-le s {i = i} h)
+
+-- an id among ids
+pub any-ids : (id : ColumnId) (ns : List ℕ) → any (sameId id) (columnIds ns) ≡ any (eqb (id .0)) ns
+any-ids id [] = refl
+any-ids id (n ∷ ns) = ap (λ (b : Bool). eqb (id .0) n || b) (any-ids id ns)
+
+-- ---- the id of a name
+
+-- the place is that of a column
+pub place-few : {s n : List ℕ} {r : Place} {i : ℕ} → FewColumns s → ShortIn name some n
+    → ((cs : List ColumnDefinition) (w : Name) → Holds (listOf 2 columnDefinition) s cs → Holds name n w → FindsColumn cs (canonical w) r) → r ≡ place.At i → i < 64
+place-few {s} {n} {r} {i} f q g e =
+    held (f .short .is) (λ cs h. held (q .is) (λ w k.
+    let c = subst (FindsColumn cs (canonical w)) e (g cs w h k) in
+    omega (arith, f .few, list-count columnDefinition s h, ap length (c .here), length-drop i cs)))
+
+pub place-id : (cs : List ColumnDefinition) (w : Text) {i : ℕ} {c : ColumnSchema} → ColumnFound cs w i → find (columnNamed w) (schemas 0 cs) ≡ some c → i + 1 ≡ c .id .0
+unfolding schema
+place-id cs w {i} {c} f e = ap (λ (x : ColumnSchema). x .id .0) (Option·some-injective (schema i (f .column)) c (sym (f .is) ∙ e))
+
+pub no-place : {o : Option ColumnSchema} {c : ColumnSchema} → o ≡ none → o ≡ some c → ⊥
+no-place {c = c} n e = Option·none-ne-some c (sym n ∙ e)
+
+-- ---- the next id
+
+-- a name of an bound key stands for a column, and the rest goes on with its id
+pub record KeyStep (cs : List ColumnSchema) (before : List ColumnId) (n : Text) (ns : List Text) (l : List ColumnId) : Type 0 where
+  pub column : ColumnSchema
+  pub is : find (columnNamed n) cs ≡ some column
+  pub rest : keyIds cs (before ++ (column .id ∷ [])) ns ≡ given l
+
+pub key-step : (cs : List ColumnSchema) (before : List ColumnId) (n : Text) (ns : List Text) {l : List ColumnId} → keyIds cs before (n ∷ ns) ≡ given l → KeyStep cs before n ns l
+unfolding keyIds
+key-step cs before n ns {l} e =
+    let a = bind-given (found (find (columnNamed n) cs) SchemaMismatch) (λ c. refuseIf (any (sameId (c .id)) before) ConstraintViolation >> keyIds cs (before ++ (c .id ∷ [])) ns) l e in
+    record { column = a .0; is = there (find (columnNamed n) cs) (a .1); rest = past (any (sameId (a .0 .id)) before) (a .2) }
+  where
+    there : (o : Option ColumnSchema) {c : ColumnSchema} → found o SchemaMismatch ≡ given c → o ≡ some c
+    there none e = absurd (never-given e)
+    there (some x) e = cc
+
+    past : (b : Bool) {r : Answer (List ColumnId)} → (refuseIf b ConstraintViolation >> r) ≡ given l → r ≡ given l
+    past true e = absurd (never-given e)
+    past false e = e
+
+pub key-over : (cs : List ColumnSchema) (before : List ColumnId) {l : List ColumnId} → keyIds cs before [] ≡ given l → before ≡ l
+unfolding keyIds
+key-over cs before {l} e = cc
+
+pub ids-more : (ids : List ℕ) (k r : ℕ) (id : ColumnId) → k < length ids → r ≡ id .0 → columnIds (take (k + 1) (set ids k r)) ≡ columnIds (take k ids) ++ (id ∷ [])
+ids-more ids k r id h e =
+    ap (λ (n : ℕ). columnIds (take n (set ids k r))) (add-one k) ∙ ap columnIds (take-suc-set ids k r h) ∙ map-append (λ n. record { 0 = n }) (take k ids) (r ∷ [])
+    ∙ ap (λ (n : ℕ). columnIds (take k ids) ++ (record { 0 = n } ∷ [])) e
+
+-- with the ids so far, the names that are left make the ids of all
+pub names-more : (cs : List ColumnSchema) (ids : List ℕ) (k : ℕ) (ns : List Name) {v : Name} {m : List Name} {l : List ColumnId} {r : ℕ}
+    → keyIds cs (columnIds (take k ids)) (map canonical (drop k ns)) ≡ given l → drop k ns ≡ v ∷ m → k < length ids
+    → ((c : ColumnSchema) → find (columnNamed (canonical v)) cs ≡ some c → r ≡ c .id .0)
+    → keyIds cs (columnIds (take (k + 1) (set ids k r))) (map canonical (drop (k + 1) ns)) ≡ given l
+names-more cs ids k ns {v} {m} {r = r} e d h g =
+    let s = key-step cs (columnIds (take k ids)) (canonical v) (map canonical m) (ap (λ (x : List Name). keyIds cs (columnIds (take k ids)) (map canonical x)) (sym d) ∙ e) in
+    ap₂ (λ (x : List ColumnId) (y : List Name). keyIds cs x (map canonical y)) (ids-more ids k r (s .column .id) h (g (s .column) (s .is))) (drop-next k ns d) ∙ s .rest
+
+-- no name is left
+pub names-over : (cs : List ColumnSchema) (ids : List ℕ) (k : ℕ) (ns : List Name) {l : List ColumnId}
+    → keyIds cs (columnIds (take k ids)) (map canonical (drop k ns)) ≡ given l → length ns ≤ k → k ≤ length ids → columnIds (take (length l) ids) ≡ l
+names-over cs ids k ns {l} e h g =
+    let o : columnIds (take k ids) ≡ l = key-over cs (columnIds (take k ids)) (ap (λ (x : List Name). keyIds cs (columnIds (take k ids)) (map canonical x)) (sym (drop-of-length-le ns {i = k} h)) ∙ e) in
+    let n : length l ≡ k = sym (ap length o) ∙ length-map (take k ids) (λ n. record { 0 = n }) ∙ length-take-le k ids g in
+    ap (λ (m : ℕ). columnIds (take m ids)) n ∙ o
+
+-- a key of one name
+pub one-id : (cs : List ColumnSchema) (n : Text) (ids : List ℕ) {l : List ColumnId} {r : ℕ} → keyIds cs [] (n ∷ []) ≡ given l → 0 < length ids
+    → ((c : ColumnSchema) → find (columnNamed n) cs ≡ some c → r ≡ c .id .0) → columnIds (take (length l) (set ids 0 r)) ≡ l
+one-id cs n ids {r = r} e h g =
+    let s = key-step cs [] n [] e in
+    ap (λ (m : ℕ). columnIds (take m (set ids 0 r))) (keys-length cs [] (n ∷ []) e)
+    ∙ ids-more ids 0 r (s .column .id) h (g (s .column) (s .is)) ∙ key-over cs (s .column .id ∷ []) (s .rest)
+
+-- a key of given names
+module _ (cs : List ColumnSchema) {names : Option (List Text)} {ns : List Text} {l : List ColumnId} (n : names ≡ some ns) (e : keyOf cs names ≡ given l) where
+  pub key-names : keyIds cs [] ns ≡ given l
+  key-names = sym (ap (keyOf cs) n) ∙ e
+
+  pub key-count : length l ≡ length ns
+  key-count = omega (arith, keys-length cs [] ns key-names)
+
+-- no key was given
+pub no-key : (cs : List ColumnSchema) {names : Option (List Text)} {l : List ColumnId} → names ≡ none → keyOf cs names ≡ given l → ⊥
+no-key cs n e = never-given (sym (ap (keyOf cs) n) ∙ e)

@@ -1,0 +1,271 @@
+// A bound CREATE TABLE, written: its code, its name, its columns, the ids of its key; the head of the record last, when the ends of its
+// parts are known.
+use bound::bundles::put_head3;
+use bound::bundles::put_ids;
+use bound::columns::put_column_schema;
+use bound::fields::put_byte;
+use bound::fields::put_count;
+use creating::Key;
+use creating::Keyed;
+use creating::Place;
+use creating::column_called;
+use creating::find_key;
+use creating::take_options;
+use options::Step;
+use repeats::Repeat;
+use rules::ColumnId;
+use rules::DataType;
+use statement::names::name_is_quoted;
+use statement::names::name_text;
+use statement::names::only_name;
+ghost use mathlib.Core.Path.{_≡_};
+ghost use mathlib.Core.Bool.{not, _&&_};
+ghost use mathlib.Core.List.{List, [], _∷_, map};
+ghost use mathlib.Core.Option.{Option, some};
+ghost use Prim.Native.Nat.{_+_, _≤_, _<_};
+ghost use lib.Dec.{eqb};
+ghost use lib.ListN.{length, take};
+ghost use Rattle.codec.specs.Layout.{listOf};
+ghost use Rattle.wire.specs.Sets.{Wrote};
+ghost use Rattle.value.specs.Parts.{columnSchema};
+ghost use Rattle.bundle.specs.Held.{Is, Holds};
+ghost use Rattle.bound.specs.Layout.{boundStatement, createTable};
+ghost use Rattle.bound.specs.Made.{columnIds};
+ghost use Rattle.statement.specs.Layout.{name, objectName, columnDefinition, create};
+ghost use Rattle.repeats.specs.Entries.{ShortIn};
+ghost use Rattle.rules.specs.declared.ColumnId.{ColumnId};
+ghost use Rattle.rules.specs.Lists.{Text, any, find};
+ghost use Rattle.rules.specs.Answers.{given};
+ghost use Rattle.rules.specs.Analyze.{noOptions, options, outsideNull, keyIds, analyzeCreateTable};
+ghost use Rattle.rules.specs.Names.{canonical};
+ghost use Rattle.rules.specs.Tables.{ColumnSchema, Catalogue, columnNamed};
+ghost use Rattle.rules.specs.Statements.{Name, plain, ColumnDefinition, CreateTable};
+ghost use Rattle.rules.specs.Bound.{BoundStatement};
+ghost use Rattle.creating.specs.Defined.{stated, typed, mayBeNull, schema, schemas, keyOf, roomFor};
+ghost use Rattle.creating.specs.Keys.{KeyAt};
+ghost use Rattle.creating.specs.Within.{CreateWithin, FewColumns, FewNames, KeyIn};
+ghost use Rattle.resolving.specs.Room.{Bindable};
+ghost use Rattle.catalogue.specs.Layout.{catalogue};
+ghost use Rattle.created.specs.Parts.{columnName, madeColumns, tableOf, Roomy, RoomyList, PlainName, Writable};
+
+// A name as it is compared, at the front of the room that the longest one takes.
+fn folded(n: &[u8]) -> [u8; 128]
+    requires { ⌜ ShortIn name some (now n) ⌝ }
+    ensures { λ r. ⌜ ((w : Name) → Holds name (now (n .entry)) w → take (length (w .text)) r ≡ canonical w) ⌝ }
+{
+    names::compared(name_is_quoted(n), name_text(n))
+}
+
+// ---- a column
+
+fn has(ids: &[u64], id: u64) -> bool
+    ensures { λ r. ⌜ r ≡ any (eqb id) (now (ids .entry)) ⌝ }
+{
+    let mut i = 0;
+    while i < ids.len() {
+        if id == ids[i] {
+            return true;
+        }
+        i += 1;
+    }
+    false
+}
+
+fn data_type(d: &[u8]) -> DataType
+    requires { ⌜ Is columnDefinition (now d) ⌝ }
+    ensures { λ r. ⌜ ((v : ColumnDefinition) → Holds columnDefinition (now (d .entry)) v → r ≡ typed (v .ty)) ⌝ }
+{
+    let code = create::type_code(d);
+    if code == 1 {
+        return DataType::Text;
+    }
+    if code == 2 {
+        return DataType::Bool;
+    }
+    DataType::Int
+}
+
+fn may_be_null(d: &[u8]) -> bool
+    requires { ⌜ Is columnDefinition (now d) ⌝ }
+    ensures { λ r. ⌜ ((v : ColumnDefinition) → Holds columnDefinition (now (d .entry)) v → r ≡ mayBeNull (stated (options noOptions (v .options)))) ⌝ }
+{
+    match take_options(create::options(d)) {
+        Step::Next(state) => state.nullable(),
+        Step::Refused(_) => true,
+    }
+}
+
+// Whether the column of an id may be null: those of the key may not.
+fn is_nullable(d: &[u8], id: u64, ids: &[u64]) -> bool
+    requires { ⌜ Is columnDefinition (now d) ⌝ }
+    ensures { λ r. ⌜ ((v : ColumnDefinition) → Holds columnDefinition (now (d .entry)) v
+        → r ≡ (mayBeNull (stated (options noOptions (v .options))) && not (any (eqb id) (now (ids .entry))))) ⌝ }
+{
+    if has(ids, id) {
+        return false;
+    }
+    may_be_null(d)
+}
+
+// Column i of a table whose key has these ids.
+fn put_column(out: &mut [u8], at: usize, d: &[u8], i: usize, ids: &[u64]) -> usize
+    requires { ⌜ ShortIn columnDefinition columnName (now d) × (i < 64) × Roomy (now d) at (length (now out)) ⌝ }
+    ensures { λ r. ⌜ ((v : ColumnDefinition) → Holds columnDefinition (now (d .entry)) v
+        → Wrote (now (out .entry)) at (columnSchema 4 .write (outsideNull (columnIds (now (ids .entry))) (schema i v))) r (now (out .exit))) ⌝ }
+{
+    let n = create::column_name(d);
+    let room = folded(n);
+    let len = name_text(n).len();
+    let id = i as u64 + 1;
+    put_column_schema(
+        out,
+        at,
+        ColumnId(id),
+        data_type(d),
+        is_nullable(d, id, ids),
+        &room[..len],
+    )
+}
+
+// The list of the columns: a column, then its length in front of the columns.
+fn put_columns(out: &mut [u8], at: usize, s: &[u8], ids: &[u64]) -> usize
+    requires { ⌜ FewColumns (now s) × RoomyList (now s) at (length (now out)) ⌝ }
+    ensures { λ r. ⌜ ((cs : List ColumnDefinition) → Holds (listOf 2 columnDefinition) (now (s .entry)) cs
+        → Wrote (now (out .entry)) at (listOf 4 (columnSchema 4) .write (madeColumns (columnIds (now (ids .entry))) cs)) r (now (out .exit))) ⌝ }
+{
+    let n = bundle::parts(s, 2);
+    let lengths = put_count(out, at, n);
+    let mut to = lengths;
+    let mut body = lengths + 4 * n;
+    let mut from = bundle::first(s, 2);
+    let mut i = 0;
+    while i < n {
+        let end = bundle::next(s, 2, i, from);
+        let after = put_column(out, body, &s[from..end], i, ids);
+        to = put_count(out, to, after - body);
+        body = after;
+        from = end;
+        i += 1;
+    }
+    body
+}
+
+// ---- the ids of the key
+
+// The id of the column that a name stands for.
+fn id_of(columns: &[u8], n: &[u8]) -> u64
+    requires { ⌜ FewColumns (now columns) × ShortIn name some (now n) ⌝ }
+    ensures { λ r. ⌜ ((cs : List ColumnDefinition) (w : Name) (c : ColumnSchema) → Holds (listOf 2 columnDefinition) (now (columns .entry)) cs
+        → Holds name (now (n .entry)) w → find (columnNamed (canonical w)) (schemas 0 cs) ≡ some c → r ≡ c .id .0) ⌝ }
+{
+    match column_called(columns, n) {
+        Place::At(i) => i as u64 + 1,
+        Place::Nowhere => 0,
+    }
+}
+
+fn name_ids(columns: &[u8], names: &[u8]) -> [u64; 64]
+    requires { ⌜ FewColumns (now columns) × FewNames (now names) ⌝ }
+    ensures { λ r. ⌜ ((cs : List ColumnDefinition) (ns : List Name) (l : List ColumnId) → Holds (listOf 2 columnDefinition) (now (columns .entry)) cs
+        → Holds (listOf 2 name) (now (names .entry)) ns → keyIds (schemas 0 cs) [] (map canonical ns) ≡ given l → columnIds (take (length l) r) ≡ l) ⌝ }
+{
+    let mut ids = [0u64; 64];
+    let n = bundle::parts(names, 2);
+    let mut at = bundle::first(names, 2);
+    let mut k = 0;
+    while k < n {
+        let end = bundle::next(names, 2, k, at);
+        ids[k] = id_of(columns, &names[at..end]);
+        at = end;
+        k += 1;
+    }
+    ids
+}
+
+fn one_id(columns: &[u8], n: &[u8]) -> [u64; 64]
+    requires { ⌜ FewColumns (now columns) × ShortIn name some (now n) ⌝ }
+    ensures { λ r. ⌜ ((cs : List ColumnDefinition) (w : Name) (l : List ColumnId) → Holds (listOf 2 columnDefinition) (now (columns .entry)) cs
+        → Holds name (now (n .entry)) w → keyIds (schemas 0 cs) [] (canonical w ∷ []) ≡ given l → columnIds (take (length l) r) ≡ l) ⌝ }
+{
+    let mut ids = [0u64; 64];
+    ids[0] = id_of(columns, n);
+    ids
+}
+
+// The ids of the key's columns, at the front of the room that the longest key takes.
+fn key_ids(s: &[u8], key: Key) -> [u64; 64]
+    requires { ⌜ CreateWithin (now s) × KeyIn (now s) key ⌝ }
+    ensures { λ r. ⌜ ((v : CreateTable) (names : Option (List Text)) (l : List ColumnId) → Holds create (now (s .entry)) v
+        → KeyAt (v .columns) (v .constraints) key names → keyOf (schemas 0 (v .columns)) names ≡ given l → columnIds (take (length l) r) ≡ l) ⌝ }
+{
+    let columns = create::columns(s);
+    match key {
+        Key::Nowhere => [0u64; 64],
+        Key::Column(i) => one_id(columns, create::column_name(bundle::part(columns, 2, i))),
+        Key::Constrained(j) => {
+            let c = bundle::part(create::constraints(s), 2, j);
+            name_ids(columns, create::key_names(c))
+        }
+    }
+}
+
+// How many they are.
+fn key_len(s: &[u8], key: Key) -> usize
+    requires { ⌜ CreateWithin (now s) × KeyIn (now s) key ⌝ }
+    ensures { λ r. ⌜ (r ≤ 64) × ((v : CreateTable) (names : Option (List Text)) (l : List ColumnId) → Holds create (now (s .entry)) v
+        → KeyAt (v .columns) (v .constraints) key names → keyOf (schemas 0 (v .columns)) names ≡ given l → r ≡ length l) ⌝ }
+{
+    match key {
+        Key::Nowhere => 0,
+        Key::Column(_) => 1,
+        Key::Constrained(j) => {
+            let c = bundle::part(create::constraints(s), 2, j);
+            bundle::parts(create::key_names(c), 2)
+        }
+    }
+}
+
+// ---- the whole
+
+fn put_name(out: &mut [u8], at: usize, o: &[u8]) -> usize
+    requires { ⌜ PlainName (now o) at (length (now out)) ⌝ }
+    ensures { λ r. ⌜ ((w : Name) → Holds objectName (now (o .entry)) (plain w) → Wrote (now (out .entry)) at (canonical w) r (now (out .exit))) ⌝ }
+{
+    let n = only_name(o);
+    let room = folded(n);
+    let len = name_text(n).len();
+    wire::put_all(out, at, &room[..len])
+}
+
+// What follows the code: a table whose key stands at `key`.
+fn put_table(s: &[u8], key: Key, out: &mut [u8]) -> usize
+    requires { ⌜ CreateWithin (now s) × Writable (now s) key (length (now out)) ⌝ }
+    ensures { λ r. ⌜ ((v : CreateTable) (w : Name) (names : Option (List Text)) (l : List ColumnId) → Holds create (now (s .entry)) v → v .name ≡ plain w
+        → KeyAt (v .columns) (v .constraints) key names → keyOf (schemas 0 (v .columns)) names ≡ given l
+        → Wrote (now (out .entry)) 1 (createTable .write (tableOf w (v .columns) l)) r (now (out .exit))) ⌝ }
+{
+    let ids = key_ids(s, key);
+    let n = key_len(s, key);
+    let columns = put_name(out, 17, create::table_name(s));
+    let key_list = put_columns(out, columns, create::columns(s), &ids[..n]);
+    let end = put_ids(out, key_list, &ids[..n]);
+    put_head3(out, 1, columns - 17, key_list - columns, end - key_list);
+    end
+}
+
+// The whole image: it answers where the image ends.
+pub fn write_create_table(c: &[u8], s: &[u8], out: &mut [u8]) -> usize
+    requires { ⌜ CreateWithin (now s) × Bindable create boundStatement analyzeCreateTable (now c) (now s) (now out) ⌝ }
+    ensures { λ r. ⌜ ((cat : Catalogue) (v : CreateTable) (b : BoundStatement) → Holds catalogue (now (c .entry)) cat → Holds create (now (s .entry)) v
+        → analyzeCreateTable cat v ≡ given b → Wrote (now (out .entry)) 0 (boundStatement .write b) r (now (out .exit))) ⌝ }
+{
+    // no column of a bound statement repeats a name
+    match find_key(s, Repeat::Nowhere) {
+        Keyed::Is(key) => {
+            put_byte(out, 0, 0);
+            put_table(s, key, out)
+        }
+        // never: the statement is bound
+        Keyed::Refused(_) => 0,
+    }
+}
