@@ -28,7 +28,6 @@ use Rattle.rules.specs.declared.DataType.{DataType}
 use Rattle.rules.specs.declared.DataType.the-variants as data-type
 use Rattle.rules.specs.Lists.{Text, any}
 use Rattle.rules.specs.Names.{canonical}
-use Rattle.rules.specs.Tables.{ColumnSchema}
 use Rattle.rules.specs.Statements.{Name, plain, ColumnType, known, otherType, ColumnDefinition}
 use Rattle.rules.specs.Analyze.{noOptions, options, outsideNull}
 use Rattle.statement.specs.Layout.{name, objectName, columnDefinition, columnTypeNo}

@@ -4,7 +4,7 @@ use mathlib.Core.Path.{_≡_, refl, sym, ap, ap₂, _∙_, subst}
 use mathlib.Core.Bool.{Bool, true, false, _||_}
 use mathlib.Core.List.{List, [], _∷_, _++_, map, map-append}
 use mathlib.Core.Option.{Option, none, some, Option·some-injective, Option·none-ne-some}
-use Prim.Native.Nat.{ℕ, suc, _+_, _≤_, _<_}
+use Prim.Native.Nat.{ℕ, _+_, _≤_, _<_}
 use native.Mathlib.Numerals.{add-one}
 use native.Mathlib.Omega.{arith}
 use lib.Dec.{eqb}
@@ -18,7 +18,7 @@ use Rattle.repeats.specs.Entries.{ShortIn}
 use Rattle.rules.specs.declared.ColumnId.{ColumnId}
 use Rattle.rules.specs.declared.Class.the-variants.{SchemaMismatch, ConstraintViolation}
 use Rattle.rules.specs.Lists.{Text, any, find}
-use Rattle.rules.specs.Answers.{Answer, given, refuseIf, found, _>>=_, _>>_}
+use Rattle.rules.specs.Answers.{Answer, given, refuseIf, found, _>>_}
 use Rattle.rules.specs.Names.{canonical}
 use Rattle.rules.specs.Tables.{ColumnSchema, sameId, columnNamed}
 use Rattle.rules.specs.Statements.{Name, ColumnDefinition}

@@ -11,7 +11,7 @@ use Rattle.resolving.specs.Tables.{newName}
 use Rattle.rules.specs.declared.ColumnId.{ColumnId}
 use Rattle.rules.specs.declared.Class.the-variants.{ConstraintViolation, UnsupportedSql}
 use Rattle.rules.specs.Lists.{Text, isSome, isEmpty}
-use Rattle.rules.specs.Answers.{Answer, given, refuseIf, _>>=_, _>>_}
+use Rattle.rules.specs.Answers.{given, _>>=_, _>>_}
 use Rattle.rules.specs.Names.{canonical, simpleName}
 use Rattle.rules.specs.Tables.{ColumnSchema, Catalogue, tableByName}
 use Rattle.rules.specs.Statements.{Name, ObjectName, plain, qualified, CreateTable}

@@ -41,7 +41,7 @@ ghost use Rattle.rules.specs.Names.{canonical};
 ghost use Rattle.rules.specs.Tables.{ColumnSchema, Catalogue, columnNamed};
 ghost use Rattle.rules.specs.Statements.{Name, plain, ColumnDefinition, CreateTable};
 ghost use Rattle.rules.specs.Bound.{BoundStatement};
-ghost use Rattle.creating.specs.Defined.{stated, typed, mayBeNull, schema, schemas, keyOf, roomFor};
+ghost use Rattle.creating.specs.Defined.{stated, typed, mayBeNull, schema, schemas, keyOf};
 ghost use Rattle.creating.specs.Keys.{KeyAt};
 ghost use Rattle.creating.specs.Within.{CreateWithin, FewColumns, FewNames, KeyIn};
 ghost use Rattle.resolving.specs.Room.{Bindable};
@@ -58,6 +58,7 @@ fn folded(n: &[u8]) -> [u8; 128]
 
 // ---- a column
 
+// Whether an id is among some.
 fn has(ids: &[u64], id: u64) -> bool
     ensures { λ r. ⌜ r ≡ any (eqb id) (now (ids .entry)) ⌝ }
 {
@@ -91,6 +92,7 @@ fn may_be_null(d: &[u8]) -> bool
 {
     match take_options(create::options(d)) {
         Step::Next(state) => state.nullable(),
+        // never: no option of a bound statement is refused
         Step::Refused(_) => true,
     }
 }
@@ -160,6 +162,7 @@ fn id_of(columns: &[u8], n: &[u8]) -> u64
 {
     match column_called(columns, n) {
         Place::At(i) => i as u64 + 1,
+        // never: each name of a bound key is a column's
         Place::Nowhere => 0,
     }
 }
@@ -200,6 +203,7 @@ fn key_ids(s: &[u8], key: Key) -> [u64; 64]
 {
     let columns = create::columns(s);
     match key {
+        // never: a bound statement has a key
         Key::Nowhere => [0u64; 64],
         Key::Column(i) => one_id(columns, create::column_name(bundle::part(columns, 2, i))),
         Key::Constrained(j) => {
@@ -216,6 +220,7 @@ fn key_len(s: &[u8], key: Key) -> usize
         → KeyAt (v .columns) (v .constraints) key names → keyOf (schemas 0 (v .columns)) names ≡ given l → r ≡ length l) ⌝ }
 {
     match key {
+        // never: a bound statement has a key
         Key::Nowhere => 0,
         Key::Column(_) => 1,
         Key::Constrained(j) => {

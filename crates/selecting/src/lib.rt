@@ -52,7 +52,7 @@ ghost use Rattle.selecting.specs.Selects.{selectedTable, selectedRows, F
 ghost use Rattle.selecting.specs.Within.{QueryWithin, SelectWithin, ItemsWithin, ItemWithin};
 
 // The one table that a SELECT reads, which has no clause that is not supported.
-fn selected_table(c: &[u8], s: &[u8]) -> Resolved
+pub fn selected_table(c: &[u8], s: &[u8]) -> Resolved
     requires { ⌜ Is (listOf 2 table) (now c) × SelectWithin (now s) ⌝ }
     ensures { λ r. ⌜ ((cat : Catalogue) (v : Select) → Holds (listOf 2 table) (now (c .entry)) cat → Holds layout.select (now (s .entry)) v
         → ResolvedAs (now (c .entry)) (selectedTable cat v) r) ⌝ }
@@ -97,7 +97,7 @@ fn columns_size(s: &[u8]) -> usize
     sum
 }
 
-fn column_called(t: &[u8], n: &[u8]) -> Named
+pub fn column_called(t: &[u8], n: &[u8]) -> Named
     requires { ⌜ Is table (now t) × (Is layout.name (now n) × ShortText (now n)) ⌝ }
     ensures { λ r. ⌜ Calls (now (t .entry)) (now (n .entry)) r ⌝ }
 {

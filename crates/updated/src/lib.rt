@@ -71,7 +71,8 @@ fn put_assignment(out: &mut [u8], at: usize, t: &[u8], a: &[u8]) -> usize
     }
 }
 
-// The list of the assignments: an assignment, then its length in front of the assignments.
+// The list of the assignments: an assignment, then its length in front of the assignments, which needs no bound of its own, as in the head of
+// a record.
 fn put_assignments(out: &mut [u8], at: usize, t: &[u8], s: &[u8]) -> usize
     requires { ⌜ AssignmentsRoom (now t) (now s) (now out) at ⌝ }
     ensures { λ r. ⌜ ((v : TableSchema) (xs : List Assignment) (bs : List BoundAssignment) → Holds table (now (t .entry)) v

@@ -1,6 +1,6 @@
 -- `created::id_of` meets its contract.
 -- Assumes nothing.
-use mathlib.Core.Path.{_∙_, subst}
+use mathlib.Core.Path.{subst}
 use native.Mathlib.Omega.{arith}
 use Rattle.rules.specs.Names.{canonical}
 use Rattle.creating.specs.Keys.{FindsColumn}

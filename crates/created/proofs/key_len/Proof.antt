@@ -43,9 +43,11 @@ key-names-requires c κs =
     part-shows (part-holds (c .part .ensures) (k .part))
 
 parts-requires : tie.Need-parts-requires
-parts-requires c κs =
-    let k = constraint-in (c .before .before .before .before .before .before .before .pre .0 .is) (c .before .before .before .before .before .before .before .pre .1) (c .before .before .before .before .key .given .1) (c .before .before .constraints .ensures) in
-    (omega arith, list-bundle name (is-held {f = listOf 2 name} (c .key-names .ensures (k .marked) (k .list) (part-holds (c .before .part .ensures) (k .part)))))
+parts-requires c κs = (
+  omega arith,
+  let k = constraint-in (c .before .before .before .before .before .before .before .pre .0 .is) (c .before .before .before .before .before .before .before .pre .1) (c .before .before .before .before .key .given .1) (c .before .before .constraints .ensures) in
+      list-bundle name (is-held {f = listOf 2 name} (c .key-names .ensures (k .marked) (k .list) (part-holds (c .before .part .ensures) (k .part)))),
+)
 
 returns : tie.Need-returns
 returns c = (

@@ -1,6 +1,6 @@
 -- `analyzer::transactions::analyze_unmarked` meets its contract.
 -- Assumes nothing.
-use mathlib.Core.Path.{sym, refl, _∙_}
+use mathlib.Core.Path.{sym, _∙_}
 use Rattle.bound.specs.Layout.{boundStatement}
 use Rattle.resolving.specs.Steps.{test-on, test-off, sized-given, sized-refused}
 use Rattle.rules.specs.Answers.{given}
