@@ -74,7 +74,8 @@ module _ (s c : List ℕ) where
 
 -- ---- the answer, case by case
 
-abbrev bytesOf : Outcome BoundStatement → Outcome (List ℕ)
+-- an outcome, with the image of its answer
+abbrev pub bytesOf : Outcome BoundStatement → Outcome (List ℕ)
 bytesOf o = next o (λ b. answers (bound.encode b))
 
 module _ (s c : List ℕ) (room : ℕ) where

@@ -5,3 +5,4 @@ pub mod Leaves
 pub mod Hex
 pub mod Worked
 pub mod Demand
+pub mod Replied
