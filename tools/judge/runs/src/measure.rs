@@ -1,0 +1,1 @@
+//! How many rows a second are run.
