@@ -4,7 +4,7 @@ use images::row::{self, Row};
 use images::statement::{self, Tree};
 use judge::compare::untouched;
 
-use crate::evaluate::{Paper, every_node, null_meets_and_or};
+use crate::evaluate::{Paper, Rules, every_node, null_meets_and_or};
 use crate::generate::Case;
 use crate::judge_run::{Answer, Update, bound_update, fitted, ran};
 use crate::other_side::OtherSide;
@@ -14,11 +14,18 @@ use crate::sqlite::OneRow;
 use crate::tally::Tally;
 
 /// The sides beside 01's rules. Where there is none the rules run alone.
-#[derive(Default)]
 pub struct Comparison {
+    /// Paper 01's, or such with a mistake, to see that SQLite catches it.
+    pub rules: &'static dyn Rules,
     pub sqlite: Option<OneRow>,
     pub other: Option<Box<dyn OtherSide>>,
     pub tally: Tally,
+}
+
+impl Default for Comparison {
+    fn default() -> Self {
+        Comparison { rules: &Paper, sqlite: None, other: None, tally: Tally::default() }
+    }
 }
 
 impl Comparison {
@@ -38,7 +45,7 @@ impl Comparison {
 
     /// A bound UPDATE and a row that obeys its table: what the run is answered with, and what SQLite says against it.
     fn runnable(&mut self, case: &Case, update: &Update, row: &Row) -> (Answer, Option<String>) {
-        let new = ran(&Paper, update, row);
+        let new = ran(self.rules, update, row);
         let difference = self.see_sqlite(case, update, row, new.as_ref().ok());
         let image = new.map_err(|_| 11).and_then(|new| {
             self.tally.row(new != *row);
@@ -56,7 +63,7 @@ impl Comparison {
         let mut form = Form::Plain;
         let values = written.assignments.iter().zip(&update.assignments).map(|(one, other)| (&one.value, &other.value));
         for (written, bound) in written.condition.iter().map(|one| (one, &update.condition)).chain(values) {
-            let worked = every_node(&Paper, bound, row);
+            let worked = every_node(self.rules, bound, row);
             self.tally.nodes(bound, &worked);
             if null_meets_and_or(bound, &worked) {
                 form = Form::Strict;

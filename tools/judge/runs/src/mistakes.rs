@@ -59,6 +59,15 @@ pub fn names() -> Vec<&'static str> {
     MISTAKES.iter().map(|(name, _)| *name).collect()
 }
 
+/// The mistakes that are about the value rules alone.
+pub fn mistaken_rules() -> Vec<(&'static str, &'static dyn Rules)> {
+    let rules = |(name, kind): &'static (&'static str, Kind)| match kind {
+        Kind::Rules(rules) => Some((*name, *rules)),
+        _ => None,
+    };
+    MISTAKES.iter().filter_map(rules).collect()
+}
+
 /// A runner with the mistake of that name.
 pub struct Mistaken(&'static Kind);
 

@@ -4,7 +4,7 @@
 use runs::compare::Comparison;
 use runs::generate::{Case, ROW_FAULTS, made};
 use runs::judge_run::{Answer, judge_run};
-use runs::mistakes::{mistaken, names};
+use runs::mistakes::{mistaken, mistaken_rules, names};
 use runs::record::record;
 use runs::sqlite::OneRow;
 
@@ -50,6 +50,17 @@ fn planted_mistakes_are_caught() {
         let caught = (0..300_000).find(|index| comparison.see(&made(8, *index).case).is_some());
         assert!(caught.is_some(), "{name} is not caught");
         println!("{name}: case {}", caught.unwrap_or_default());
+    }
+}
+
+/// The second judge alone, without another runner.
+#[test]
+fn sqlite_catches_mistaken_value_rules() {
+    for (name, rules) in mistaken_rules() {
+        let Some(sqlite) = OneRow::open() else { return };
+        let mut comparison = Comparison { rules, sqlite: Some(sqlite.unwrap()), ..Comparison::default() };
+        let caught = (0..300_000).any(|index| comparison.see(&made(10, index).case).is_some());
+        assert!(caught, "{name} is not caught");
     }
 }
 
