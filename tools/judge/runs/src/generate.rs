@@ -5,12 +5,13 @@
 use images::catalogue::{Catalogue, Column, Table};
 use images::random::{Rng, any_row, any_text, any_value, damage_bytes};
 use images::row::Row;
-use images::statement::{Expression, Node, Statement, Tree};
+use images::statement::{Assignment, Expression, Name, Node, ObjectName, Statement, Target, Tree};
 use images::text::print::tree_to_sql;
-use images::value::{ColumnType, Value};
+use images::value::{ColumnType, Operator, Value};
 use judge::generate::{Draft, FAULTS, Room, catalogues, plant_some_fault, planted, statements};
 
 use crate::judge_run::judge_run;
+use crate::sql::position;
 
 /// What both sides are asked.
 #[derive(Debug, Clone, PartialEq, Eq, Hash)]
@@ -105,7 +106,23 @@ fn catalogue(rng: &mut Rng) -> Catalogue {
         let columns = [1, 2, 3, 3, 4, 4, 5, 6, 7, 8][rng.below(10)];
         catalogues::add_table(rng, &mut catalogue, columns);
     }
+    for table in &mut catalogue.tables {
+        if rng.once_in(2) {
+            small_ids(rng, table);
+        }
+    }
     catalogue
+}
+
+/// Ids that could be taken for positions: 1, 2, 3 .. in another order.
+fn small_ids(rng: &mut Rng, table: &mut Table) {
+    let mut ids: Vec<u64> = (1..=table.columns.len() as u64).collect();
+    rng.shuffle(&mut ids);
+    for id in &mut table.key {
+        let place = table.columns.iter().position(|column| column.id == *id).expect("the key is of columns");
+        *id = ids[place];
+    }
+    table.columns.iter_mut().zip(ids).for_each(|(column, id)| column.id = id);
 }
 
 // ---- values
@@ -118,7 +135,10 @@ enum Temper {
     Edgy,
 }
 
-const EDGES: [i64; 16] = [
+/// The least one is there more often: three operators have a rule of its own for it.
+const EDGES: [i64; 18] = [
+    i64::MIN,
+    i64::MIN,
     i64::MIN,
     i64::MIN + 1,
     i64::MIN / 2,
@@ -208,8 +228,29 @@ fn update_of(rng: &mut Rng, temper: Temper, table: &Table, row: &Row) -> Tree {
         for expression in values.chain(&mut update.condition) {
             expression.nodes.iter_mut().for_each(|node| suit(rng, temper, row, node));
         }
+        if rng.once_in(12) {
+            update.assignments.iter_mut().for_each(|assignment| turn_sign(rng, table, assignment));
+        }
     }
     tree
+}
+
+/// Makes the value of an INT column one that the least INT of another has a rule of its own for.
+fn turn_sign(rng: &mut Rng, table: &Table, assignment: &mut Assignment) {
+    let Target::Column(ObjectName::One(name)) = &assignment.target else { return };
+    let Some(target) = position(name, table).map(|place| &table.columns[place]) else { return };
+    let fits = |column: &&Column| column.data_type == ColumnType::Int && (target.nullable || !column.nullable);
+    let operands: Vec<&Column> = table.columns.iter().filter(fits).collect();
+    if target.data_type != ColumnType::Int || operands.is_empty() {
+        return;
+    }
+    let operand = Expression::leaf(Node::Name(Name::quoted(rng.pick(&operands).name.clone())));
+    let minus_one = Expression::unary(Node::Minus, Expression::leaf(Node::Number("1".to_string())));
+    let operators = [Operator::Multiply, Operator::Divide, Operator::Modulo];
+    assignment.value = match operators.get(rng.below(4)) {
+        Some(operator) => Expression::binary(Node::Binary(*operator), operand, minus_one),
+        None => Expression::unary(Node::Minus, operand),
+    };
 }
 
 /// Changes most literals. A number stays one that a sign may stand before.

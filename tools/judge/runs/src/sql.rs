@@ -77,10 +77,14 @@ fn string(text: &str) -> String {
     format!("CAST(x'{digits}' AS TEXT)")
 }
 
-fn column(name: &Name, table: &Table) -> String {
+/// The position of the column that a name stands for.
+pub fn position(name: &Name, table: &Table) -> Option<usize> {
     let folded = if name.quoted { name.text.clone() } else { name.text.to_ascii_lowercase() };
-    let place = table.columns.iter().position(|column| column.name == folded);
-    format!("c{}", place.expect("the name binds"))
+    table.columns.iter().position(|column| column.name == folded)
+}
+
+fn column(name: &Name, table: &Table) -> String {
+    format!("c{}", position(name, table).expect("the name binds"))
 }
 
 pub fn update(update: &Update, table: &Table, form: Form) -> String {
