@@ -18,7 +18,7 @@ use Rattle.rules.specs.Evaluate.{Worked, worked, fault, noRule, then, evaluate,
 use Rattle.rules.specs.Rows.{Row}
 use Rattle.rules.specs.Statements.{Target, Assignment}
 use Rattle.rules.specs.Tables.{TableSchema}
-use Rattle.values.specs.Worths.{told, told-then}
+use Rattle.values.specs.Worths.{told}
 
 -- ---- one assignment: the position that it gives its value to, where it has a value and a position
 

@@ -1,7 +1,7 @@
 -- What an UPDATE of a row may rely on, and where an assignment lands.
 -- Assumes nothing.
-use mathlib.Core.Path.{_≡_, refl, sym, ap, _∙_, subst}
-use mathlib.Core.Bool.{Bool, true, false, false≢true, _&&_}
+use mathlib.Core.Path.{_≡_, refl, sym, ap, _∙_}
+use mathlib.Core.Bool.{true, false, false≢true}
 use mathlib.Core.List.{List, [], _∷_}
 use mathlib.Core.Option.{Option, none, some, Option·none-ne-some}
 use Prim.Native.Nat.{ℕ, suc, _≤_, _<_}
@@ -15,7 +15,6 @@ use Rattle.catalogue.specs.Layout.{table}
 use Rattle.evaluating.specs.Works.{ObeysTable, Says, obeys-row}
 use Rattle.row.specs.Layout.{row}
 use Rattle.row.specs.Obeyed.{obeyed-row}
-use Rattle.rules.specs.declared.Class.{Class}
 use Rattle.rules.specs.declared.Class.the-variants.{SchemaMismatch}
 use Rattle.rules.specs.declared.Ordinal.{Ordinal}
 use Rattle.rules.specs.declared.Refusal.{Refusal}
@@ -31,7 +30,6 @@ use Rattle.rules.specs.Statements.{Target, Assignment}
 use Rattle.rules.specs.Tables.{ColumnSchema, TableSchema}
 use Rattle.rules.specs.Theorems.Values as theorems
 use Rattle.rules.specs.Theorems.Values.{column-of}
-use Rattle.resolving.specs.Steps.{classed}
 use Rattle.statement.specs.Layout.{assignment}
 use Rattle.updating.specs.Targets.{targetColumn, ColumnGiven}
 use Rattle.values.specs.declared.Worth.{Worth}

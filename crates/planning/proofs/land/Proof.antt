@@ -1,9 +1,6 @@
 -- `planning::land` meets its contract.
 -- Assumes nothing.
-use mathlib.Core.Path.{_≡_, sym, ap, _∙_}
-use mathlib.Core.Option.{Option}
-use Prim.Native.Nat.{ℕ}
-use denote.Ref.{now}
+use mathlib.Core.Path.{sym, ap, _∙_}
 use Rattle.updating.specs.Targets.{targetColumn, targeted-is, targeted-off}
 use Rattle.updating.specs.Within.{assignment-target, assignment-value}
 use Rattle.planning.specs.Runs.{placed, land-fault, land-off, land-on}
