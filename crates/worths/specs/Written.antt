@@ -9,11 +9,9 @@ use native.Mathlib.Omega.{arith}
 use lib.IntN.{ℤ}
 use lib.ListN.{length, getD}
 use Rattle.wire.specs.Le.{Bytes}
-use Rattle.wire.specs.Sets.{Wrote}
 use Rattle.codec.specs.Format.{Every}
-use Rattle.bundle.specs.Held.{Holds, held, held-once}
+use Rattle.bundle.specs.Held.{Holds, held}
 use Rattle.bound.specs.Spelt.{int-length, text-length, bool-length, null-length}
-use Rattle.expression.specs.Place.{nodeCount, nodeAt}
 use Rattle.marking.specs.Small.{short-text}
 use Rattle.row.specs.Layout.{row}
 use Rattle.rules.specs.Bound.{Value}

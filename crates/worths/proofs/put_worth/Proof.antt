@@ -1,12 +1,10 @@
 -- `worths::put_worth` meets its contract.
 -- Assumes nothing.
-use mathlib.Core.Path.{_≡_, ap, _∙_}
-use denote.Ref.{now}
+use mathlib.Core.Path.{ap}
 use mir.Syntax.{w64}
 use mir.Facts.{toZ-ofZ}
 use mir.Val.{SFits}
 use Rattle.bound.specs.Written.{spelt}
-use Rattle.rules.specs.Bound.{Value}
 use Rattle.value.specs.Parts.{value}
 use Rattle.values.specs.Worths.{sound-spelt}
 use Rattle.worths.specs.Written.{null-is, int-is, bool-is, text-is, never-fault, sound-by, null-room, int-room, bool-room, text-room}
