@@ -58,19 +58,20 @@ fn is_short(case: &Case, answer: &Answer) -> bool {
     lengths.into_iter().chain([answer.bytes().len(), case.room]).all(|length| length <= LONGEST)
 }
 
-/// What a record must reach: every planted fault with every answer that it came to, and every end of every operator with
-/// a row or a fault.
+/// What a record must reach: every planted fault, and every end of every operator, with every answer that it came to.
+/// Binding has a record of its own, so that each of its refusals is one key here.
 fn keys(made: &Made, answer: &Answer) -> Vec<String> {
     let number = answer.number();
+    if (1..=8).contains(&number) {
+        return vec![format!("{number}")];
+    }
     let mut keys: Vec<String> = made.faults.iter().map(|fault| format!("{fault} {number}")).collect();
     let mut comparison = Comparison::default();
     comparison.see(&made.case);
     for (operator, ends) in comparison.tally.ends.iter().enumerate() {
         keys.extend((0..ends.len()).filter(|end| ends[*end] > 0).map(|end| format!("{operator} {end} {number}")));
     }
-    if keys.is_empty() {
-        keys.push(format!("{number}"));
-    }
+    keys.push(format!("{number}"));
     keys
 }
 
