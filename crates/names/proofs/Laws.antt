@@ -1,9 +1,9 @@
--- Lists of bytes, looked through from the front, and a list made one byte after the other.
+-- Lists of bytes, looked through, and a list made one byte after the other.
 -- Assumes nothing.
 use mathlib.Core.Path.{_≡_, refl, sym, ap, ap₂, _∙_}
-use mathlib.Core.Bool.{Bool, true, false, _&&_, _||_, and-false}
+use mathlib.Core.Bool.{Bool, true, false, _&&_, _||_, and-true, and-false, and-assoc}
 use mathlib.Core.List.{[], _∷_, map, map-id, map-append}
-use Prim.Native.Nat.{ℕ, suc, _+_, _≤_, _<_}
+use Prim.Native.Nat.{ℕ, zero, suc, _+_, _-_, _≤_, _<_}
 use native.Mathlib.Numerals.{add-one}
 use native.Mathlib.Omega.{arith}
 use lib.Dec.{eqb}
@@ -14,44 +14,62 @@ use Rattle.rules.specs.Lists.{Text, same, any}
 use Rattle.rules.specs.Names.{canonical}
 use Rattle.names.specs.Compared.{named, comparedByte, agreeing}
 
--- ---- two texts, with each byte taken as in a quoted name or as in an unquoted one
+-- ---- two texts, with the bytes of each taken as in a quoted name or as in an unquoted one
 
-module _ (quoted : Bool) where
-  abbrev byte : ℕ → ℕ
-  byte = comparedByte quoted
+module _ (q1 q2 : Bool) where
+  abbrev alike : ℕ → ℕ → Bool
+  alike x y = eqb (comparedByte q1 x) (comparedByte q2 y)
 
-  pub agree-longer : (a b : Text) → (length a ≡ length b → ⊥) → false ≡ agreeing quoted a b
+  pub agree-longer : (a b : Text) → (length a ≡ length b → ⊥) → false ≡ agreeing q1 q2 a b
   agree-longer [] [] g = absurd (g refl)
   agree-longer [] (y ∷ b) g = refl
   agree-longer (x ∷ a) [] g = refl
-  agree-longer (x ∷ a) (y ∷ b) g = rw (← agree-longer a b (λ e. g (ap suc e))) (sym (and-false (eqb (byte x) (byte y))))
+  agree-longer (x ∷ a) (y ∷ b) g = rw (← agree-longer a b (λ e. g (ap suc e))) (sym (and-false (alike x y)))
 
-  module _ (a b : Text) (i : ℕ) (ha : i < length a) (hb : i < length b) where
-    agree-at : agreeing quoted (drop i a) (drop i b)
-        ≡ (eqb (byte (getD a i 0)) (byte (getD b i 0)) && agreeing quoted (drop (i + 1) a) (drop (i + 1) b))
-    agree-at = rw (drop-cons a i 0 ha, drop-cons b i 0 hb, add-one) refl
+  pub agree-whole : (a b : Text) → length a ≡ length b → agreeing q1 q2 (take (length a) a) (take (length a) b) ≡ agreeing q1 q2 a b
+  agree-whole a b e = rw (take-all (length a) a (omega arith), take-all (length a) b (omega arith)) refl
 
-    pub agree-pass : byte (getD a i 0) ≡ byte (getD b i 0) → agreeing quoted (drop (i + 1) a) (drop (i + 1) b) ≡ agreeing quoted (drop i a) (drop i b)
-    agree-pass e = rw agree-at (simp (eq-eqb (byte (getD a i 0)) (byte (getD b i 0)) e))
+  -- the first bytes, and the last of them apart
+  agree-more : (a b : Text) (i : ℕ) → i < length a → i < length b
+      → agreeing q1 q2 (take (suc i) a) (take (suc i) b) ≡ (agreeing q1 q2 (take i a) (take i b) && alike (getD a i 0) (getD b i 0))
+  agree-more [] b i ha hb = absurd (omega arith)
+  agree-more (x ∷ a) [] i ha hb = absurd (omega arith)
+  agree-more (x ∷ a) (y ∷ b) zero ha hb = and-true (alike x y)
+  agree-more (x ∷ a) (y ∷ b) (suc i) ha hb = rw (agree-more a b i (omega arith) (omega arith)) (sym (and-assoc (alike x y) _ _))
 
-    pub agree-stop : (byte (getD a i 0) ≡ byte (getD b i 0) → ⊥) → false ≡ agreeing quoted (drop i a) (drop i b)
-    agree-stop g = rw agree-at (simp (ne-eqb (byte (getD a i 0)) (byte (getD b i 0)) g))
+  module _ (a b : Text) (i : ℕ) (h : 0 < i) (ha : i ≤ length a) (hb : i ≤ length b) where
+    agree-at : agreeing q1 q2 (take i a) (take i b)
+        ≡ (agreeing q1 q2 (take (i - 1) a) (take (i - 1) b) && alike (getD a (i - 1) 0) (getD b (i - 1) 0))
+    agree-at =
+        let e : suc (i - 1) ≡ i = omega arith in
+        rw e at (agree-more a b (i - 1) (omega arith) (omega arith))
 
-  pub agree-end : (a b : Text) (i : ℕ) → length a ≤ i → length b ≤ i → true ≡ agreeing quoted (drop i a) (drop i b)
-  agree-end a b i ha hb = rw (drop-of-length-le a ha, drop-of-length-le b hb)
+    pub agree-pass : comparedByte q1 (getD a (i - 1) 0) ≡ comparedByte q2 (getD b (i - 1) 0)
+        → agreeing q1 q2 (take (i - 1) a) (take (i - 1) b) ≡ agreeing q1 q2 (take i a) (take i b)
+    agree-pass e = rw agree-at (simp (eq-eqb _ _ e, and-true))
 
-pub agree-quoted : (a b : Text) → agreeing true a b ≡ same a b
-agree-quoted a b = ap₂ same (map-id a) (map-id b)
+    pub agree-stop : (comparedByte q1 (getD a (i - 1) 0) ≡ comparedByte q2 (getD b (i - 1) 0) → ⊥) → false ≡ agreeing q1 q2 (take i a) (take i b)
+    agree-stop g = rw agree-at (simp (ne-eqb _ _ g, and-false))
 
--- ---- names of different lengths are different, whatever is folded
-
-pub same-longer : (a b : Text) → (length a ≡ length b → ⊥) → false ≡ same a b
-same-longer a b g = agree-longer true a b g ∙ agree-quoted a b
+  pub agree-none : (a b : Text) (i : ℕ) → i ≤ 0 → true ≡ agreeing q1 q2 (take i a) (take i b)
+  agree-none a b zero h = refl
+  agree-none a b (suc i) h = absurd (omega arith)
 
 compared-is : (quoted : Bool) (s : Text) → map (comparedByte quoted) s ≡ canonical (named quoted s)
 unfolding canonical
 compared-is true s = map-id s
 compared-is false s = refl
+
+pub agree-quoted : (a b : Text) → agreeing true true a b ≡ same a b
+agree-quoted a b = ap₂ same (map-id a) (map-id b)
+
+pub agree-names : (q1 q2 : Bool) (a b : Text) → agreeing q1 q2 a b ≡ same (canonical (named q1 a)) (canonical (named q2 b))
+agree-names q1 q2 a b = ap₂ same (compared-is q1 a) (compared-is q2 b)
+
+-- ---- names of different lengths are different, whatever is folded
+
+pub same-longer : (a b : Text) → (length a ≡ length b → ⊥) → false ≡ same a b
+same-longer a b g = agree-longer true true a b g ∙ agree-quoted a b
 
 pub canonical-long : (quoted : Bool) (s : Text) → length (canonical (named quoted s)) ≡ length s
 canonical-long quoted s = ap length (sym (compared-is quoted s)) ∙ length-map s (comparedByte quoted)

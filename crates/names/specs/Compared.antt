@@ -14,6 +14,6 @@ named quoted text = record { quoted = quoted; text = text }
 abbrev pub comparedByte : Bool → ℕ → ℕ
 comparedByte quoted b = cond quoted b (fold b)
 
--- two texts, with their bytes so taken
-abbrev pub agreeing : Bool → Text → Text → Bool
-agreeing quoted a b = same (map (comparedByte quoted) a) (map (comparedByte quoted) b)
+-- two texts, with the bytes of each so taken
+abbrev pub agreeing : Bool → Bool → Text → Text → Bool
+agreeing q1 q2 a b = same (map (comparedByte q1) a) (map (comparedByte q2) b)

@@ -30,19 +30,20 @@ fn compared_byte(quoted: bool, b: u8) -> u8
     fold(b)
 }
 
-// Whether two texts agree, with the bytes of both taken as in a quoted name or as in an unquoted one.
-fn agree(quoted: bool, a: &[u8], b: &[u8]) -> bool
-    ensures { λ r. ⌜ r ≡ agreeing quoted (now (a .entry)) (now (b .entry)) ⌝ }
+// Whether two texts agree, with the bytes of each taken as in a quoted name or as in an unquoted one. From the last byte back: names that stand
+// side by side often begin alike.
+fn agree(q1: bool, a: &[u8], q2: bool, b: &[u8]) -> bool
+    ensures { λ r. ⌜ r ≡ agreeing q1 q2 (now (a .entry)) (now (b .entry)) ⌝ }
 {
     if a.len() != b.len() {
         return false;
     }
-    let mut i = 0;
-    while i < a.len() {
-        if compared_byte(quoted, a[i]) != compared_byte(quoted, b[i]) {
+    let mut i = a.len();
+    while 0 < i {
+        i -= 1;
+        if compared_byte(q1, a[i]) != compared_byte(q2, b[i]) {
             return false;
         }
-        i += 1;
     }
     true
 }
@@ -51,14 +52,14 @@ fn agree(quoted: bool, a: &[u8], b: &[u8]) -> bool
 pub fn same(a: &[u8], b: &[u8]) -> bool
     ensures { λ r. ⌜ r ≡ same (now (a .entry)) (now (b .entry)) ⌝ }
 {
-    agree(true, a, b)
+    agree(true, a, true, b)
 }
 
 // The same but for ASCII case.
 pub fn same_but_case(a: &[u8], b: &[u8]) -> bool
     ensures { λ r. ⌜ r ≡ same (map fold (now (a .entry))) (map fold (now (b .entry))) ⌝ }
 {
-    agree(false, a, b)
+    agree(false, a, false, b)
 }
 
 // Number 8: an unquoted name with a byte of 128 or more.
@@ -110,10 +111,5 @@ pub fn are_same_name(q1: bool, n1: &[u8], q2: bool, n2: &[u8]) -> bool
     requires { ⌜ (length (now n1) ≤ 128) × (length (now n2) ≤ 128) ⌝ }
     ensures { λ r. ⌜ r ≡ same (canonical (named q1 (now (n1 .entry)))) (canonical (named q2 (now (n2 .entry)))) ⌝ }
 {
-    if n1.len() != n2.len() {
-        return false;
-    }
-    let room = compared(q2, n2);
-    let n = n2.len();
-    is_called(q1, n1, &room[..n])
+    agree(q1, n1, q2, n2)
 }

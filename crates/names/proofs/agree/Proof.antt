@@ -1,29 +1,34 @@
--- `names::agree` meets its contract. The invariant: what is left of the two from i on agrees where the whole does.
+-- `names::agree` meets its contract. The invariant: the first i bytes of the two agree where the whole does.
 -- Assumes nothing.
-use mathlib.Core.Path.{_≡_, refl, sym, _∙_}
-use Prim.Native.Nat.{_≤_, _-_}
+use mathlib.Core.Path.{_≡_, sym, _∙_}
+use Prim.Native.Nat.{_≤_}
 use native.Mathlib.Omega.{arith}
-use lib.ListN.{length, drop}
+use lib.ListN.{length, take}
 use denote.Ref.{now}
 use Rattle.names.specs.Compared.{agreeing}
-use Rattle.names.proofs.Laws.{agree-longer, agree-pass, agree-stop, agree-end}
+use Rattle.names.proofs.Laws.{agree-longer, agree-whole, agree-pass, agree-stop, agree-none}
 use borrow.Author.Needs.{needs}
 use Rattle.names.proofs.agree.Statement.{statement}
 use Rattle.names.proofs.agree.Tie as tie
 
 abbrev Inv-loop : tie.InvT-loop
-Inv-loop quoted a b i₀ i = (i ≤ length a) × (agreeing quoted (drop i a) (drop i b) ≡ agreeing quoted a b)
+Inv-loop q1 a q2 b i₀ i = (i ≤ length a) × (agreeing q1 q2 (take i a) (take i b) ≡ agreeing q1 q2 a b)
 
 abbrev μ-loop : tie.MeasureT-loop
-μ-loop quoted a b i₀ i = length a - i
+μ-loop q1 a q2 b i₀ i = i
 
 returns : tie.Need-returns Inv-loop μ-loop
 returns c =
     let a = c .before .before .before .args in
-    agree-longer (a .quoted) (now (a .a)) (now (a .b)) (omega arith)
+    agree-longer (a .q1) (a .q2) (now (a .a)) (now (a .b)) (omega arith)
 
 loop-holds : tie.Need-loop-holds Inv-loop μ-loop
-loop-holds c = (search needs, refl)
+loop-holds c =
+    let a = c .before .before .before .args in
+    (search needs, agree-whole (a .q1) (a .q2) (now (a .a)) (now (a .b)) (omega arith))
+
+sub-i : tie.Need-sub-i Inv-loop μ-loop
+sub-i c = search needs
 
 shared-slice-read-compared-byte : tie.Need-shared-slice-read-compared-byte Inv-loop μ-loop
 shared-slice-read-compared-byte c = search needs
@@ -42,12 +47,9 @@ returns-2 c =
     let f = c .before .before .before in
     let l = f .before .before .before in
     let a = l .before .before .before .before .args in
-    agree-stop (a .quoted) (now (a .a)) (now (a .b)) (l .loop .i) (omega arith) (omega arith)
+    agree-stop (a .q1) (a .q2) (now (a .a)) (now (a .b)) (l .loop .i) (omega arith) (omega arith) (omega arith)
     (λ e. c .if2 .taken (f .compared-byte .ensures ∙ e ∙ sym (c .before .compared-byte2 .ensures)))
     ∙ l .loop .inv .1
-
-add-i : tie.Need-add-i Inv-loop μ-loop
-add-i c = search needs
 
 loop-less : tie.Need-loop-less Inv-loop μ-loop
 loop-less c = search needs
@@ -58,7 +60,7 @@ loop-again c =
     let l = f .before .before .before in
     let a = l .before .before .before .before .args in (
       search needs,
-      agree-pass (a .quoted) (now (a .a)) (now (a .b)) (l .loop .i) (omega arith) (omega arith)
+      agree-pass (a .q1) (a .q2) (now (a .a)) (now (a .b)) (l .loop .i) (omega arith) (omega arith) (omega arith)
           (sym (f .compared-byte .ensures) ∙ c .if2 .left ∙ c .before .compared-byte2 .ensures)
           ∙ l .loop .inv .1,
     )
@@ -67,7 +69,7 @@ returns-3 : tie.Need-returns-3 Inv-loop μ-loop
 returns-3 c =
     let l = c .before in
     let a = l .before .before .before .before .args in
-    agree-end (a .quoted) (now (a .a)) (now (a .b)) (l .loop .i) (omega arith) (omega arith) ∙ l .loop .inv .1
+    agree-none (a .q1) (a .q2) (now (a .a)) (now (a .b)) (l .loop .i) (c .loop-test .left) ∙ l .loop .inv .1
 
 pub agree-spec : {M : Type 1} → statement M
 agree-spec =
@@ -77,12 +79,12 @@ agree-spec =
     μ-loop
     returns
     loop-holds
+    sub-i
     shared-slice-read-compared-byte
     compared-byte-requires
     shared-slice-read-compared-byte-2
     compared-byte-requires-2
     returns-2
-    add-i
     loop-less
     loop-again
     returns-3)
