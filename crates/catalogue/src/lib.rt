@@ -201,23 +201,33 @@ pub enum Found {
     Nothing,
 }
 
-// The table that a name of the statement stands for.
-pub fn find_table(c: &[u8], quoted: bool, name: &[u8]) -> Found
-    requires { ⌜ Is (listOf 2 table) (now c) × (length (now name) ≤ 128) ⌝ }
-    ensures { λ r. ⌜ FindsTable (now (c .entry)) (canonical (named quoted (now (name .entry)))) r ⌝ }
+// The first of some tables that has the name, as names are compared.
+fn table_called(c: &[u8], name: &[u8]) -> Found
+    requires { ⌜ Is (listOf 2 table) (now c) ⌝ }
+    ensures { λ r. ⌜ FindsTable (now (c .entry)) (now (name .entry)) r ⌝ }
 {
     let n = bundle::parts(c, 2);
     let mut at = bundle::first(c, 2);
     let mut i = 0;
     while i < n {
         let end = bundle::next(c, 2, i, at);
-        if names::is_called(quoted, name, table_name(&c[at..end])) {
+        if names::same(name, table_name(&c[at..end])) {
             return Found::At(at, end);
         }
         at = end;
         i += 1;
     }
     Found::Nothing
+}
+
+// The table that a name of the statement stands for. The name is folded once, and not for each table.
+pub fn find_table(c: &[u8], quoted: bool, name: &[u8]) -> Found
+    requires { ⌜ Is (listOf 2 table) (now c) × (length (now name) ≤ 128) ⌝ }
+    ensures { λ r. ⌜ FindsTable (now (c .entry)) (canonical (named quoted (now (name .entry)))) r ⌝ }
+{
+    let room = names::compared(quoted, name);
+    let n = name.len();
+    table_called(c, &room[..n])
 }
 
 struct Place {
@@ -248,23 +258,33 @@ enum Standing {
     Nowhere,
 }
 
-// The first of some columns that has the name.
-fn find_among(s: &[u8], quoted: bool, name: &[u8]) -> Standing
-    requires { ⌜ Is (listOf 2 (columnSchema 2)) (now s) × (length (now name) ≤ 128) ⌝ }
-    ensures { λ r. ⌜ Stands (now (s .entry)) (canonical (named quoted (now (name .entry)))) r ⌝ }
+// The first of some columns that has the name, as names are compared.
+fn column_called(s: &[u8], name: &[u8]) -> Standing
+    requires { ⌜ Is (listOf 2 (columnSchema 2)) (now s) ⌝ }
+    ensures { λ r. ⌜ Stands (now (s .entry)) (now (name .entry)) r ⌝ }
 {
     let n = bundle::parts(s, 2);
     let mut at = bundle::first(s, 2);
     let mut i = 0;
     while i < n {
         let end = bundle::next(s, 2, i, at);
-        if names::is_called(quoted, name, column_name(&s[at..end])) {
+        if names::same(name, column_name(&s[at..end])) {
             return Standing::At(i, at, end);
         }
         at = end;
         i += 1;
     }
     Standing::Nowhere
+}
+
+// The first of some columns that a name of the statement stands for.
+fn find_among(s: &[u8], quoted: bool, name: &[u8]) -> Standing
+    requires { ⌜ Is (listOf 2 (columnSchema 2)) (now s) × (length (now name) ≤ 128) ⌝ }
+    ensures { λ r. ⌜ Stands (now (s .entry)) (canonical (named quoted (now (name .entry)))) r ⌝ }
+{
+    let room = names::compared(quoted, name);
+    let n = name.len();
+    column_called(s, &room[..n])
 }
 
 // A column, with the position that it has in its table and the bytes of its name in the table's image.
