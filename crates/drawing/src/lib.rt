@@ -58,10 +58,10 @@ pub fn value_len<'a>(t: &'a [u8], s: &'a [u8], r: &'a [u8], p: usize, k: usize) 
     requires { ⌜ (Runs (now t) (now r) × ShortAssignments (now s)) × Draws (now t) (now s) (now r) p k ⌝ }
     ensures { λ n. ⌜ (n ≤ 4294967296) × ((u : Value) → Drawing (now (t .entry)) (now (s .entry)) (now (r .entry)) p k u → n ≡ length (value .write u)) ⌝ }
 {
-    if k == 0 {
-        return kept_len(value_at(r, Ordinal(p)));
+    if 0 < k {
+        return given_len(t, value_of(bundle::part(s, 2, k - 1)), r);
     }
-    given_len(t, value_of(bundle::part(s, 2, k - 1)), r)
+    kept_len(value_at(r, Ordinal(p)))
 }
 
 pub fn put_value<'a>(

@@ -1,22 +1,22 @@
 -- The whole: what is known of the images, what is answered, and the rules' steps as the code makes them.
 -- Assumes nothing.
-use Rattle.drawing.specs.Drawing.{RowDrawn, RowDraws, RowDrawsInto}
-use Rattle.planning.specs.Plans.{Drawn, Plans}
-use Rattle.wire.specs.Le.{Bytes}
 use mathlib.Core.Path.{_≡_, refl, sym, ap, _∙_, subst}
-use mathlib.Core.Bool.{true, false, Bool}
+use mathlib.Core.Bool.{Bool, true, false}
 use mathlib.Core.List.{List}
 use mathlib.Core.Option.{none, some, Option·none-ne-some, Option·some-injective}
 use Prim.Native.Nat.{ℕ, _≤_}
 use native.Mathlib.Omega.{arith}
 use lib.ListN.{length}
+use Rattle.wire.specs.Le.{Bytes}
 use Rattle.codec.specs.Layout.{listOf}
 use Rattle.codec.specs.Ways.{next}
 use Rattle.bundle.specs.Held.{Holds, held}
 use Rattle.catalogue.specs.Layout.{table}
+use Rattle.drawing.specs.Drawing.{RowDrawn, RowDraws, RowDrawsInto}
 use Rattle.evaluating.specs.Works.{Says, Comes}
 use Rattle.expression.specs.Expression as image
 use Rattle.filtering.specs.Short.{ShortExpression}
+use Rattle.planning.specs.Plans.{Drawn, Plans}
 use Rattle.planning.specs.Runs.{Runs, runs-row}
 use Rattle.row.specs.Layout.{row}
 use Rattle.rules.specs.Bound.{Value}
