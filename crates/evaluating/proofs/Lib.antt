@@ -1,0 +1,5 @@
+pub mod Arms
+pub mod Stored
+pub mod Looked
+pub mod Places
+pub mod Steps
