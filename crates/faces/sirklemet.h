@@ -1,7 +1,8 @@
-/* The proved readers, from the static library that `rt staticlib faces` writes (target/staticlib/libfaces.a).
+/* The proved binder and readers, from the static library that `rt staticlib faces` writes (target/staticlib/libfaces.a).
  *
  * Bytes pass as a pointer and a length. The pointer is not NULL, also where the length is 0, and as many bytes can be
- * read there. Any bytes will do otherwise: each function ends, reads nothing else and writes nothing. */
+ * read there. Any bytes will do otherwise: each function ends, reads nothing else, and writes nothing but what is said to
+ * be written. */
 #ifndef SIRKLEMET_H
 #define SIRKLEMET_H
 
@@ -12,6 +13,60 @@
 #ifdef __cplusplus
 extern "C" {
 #endif
+
+/* Why something is refused (docs/REFUSALS.md). Binding refuses with 1 to 9. */
+enum sirklemet_refusal {
+    SIRKLEMET_SCHEMA_MISMATCH = 1,
+    SIRKLEMET_CONSTRAINT_VIOLATION = 2,
+    SIRKLEMET_UNSUPPORTED_SQL = 3,
+    SIRKLEMET_INVALID_ARGUMENT = 4,
+    SIRKLEMET_NO_STATEMENT = 5,
+    SIRKLEMET_NO_CATALOGUE = 6,
+    SIRKLEMET_PAST_A_LIMIT = 7,
+    SIRKLEMET_NAME_BEYOND_ASCII = 8,
+    SIRKLEMET_NO_ROOM = 9,
+    SIRKLEMET_NO_ROW = 10,
+    SIRKLEMET_FAULT = 11,
+    SIRKLEMET_NO_UPDATE = 12,
+};
+
+/* A refusal in words; 0 has none. */
+static inline const char *sirklemet_words(uint8_t refusal)
+{
+    switch (refusal) {
+    case SIRKLEMET_SCHEMA_MISMATCH: return
+        "the statement does not fit what the table declares: no such table or column, another type, or a number out of range";
+    case SIRKLEMET_CONSTRAINT_VIOLATION: return
+        "the statement breaks a rule of the table: NULL where none may be, a key, a name given twice, a table that is there already";
+    case SIRKLEMET_UNSUPPORTED_SQL: return
+        "the statement uses SQL that is not supported";
+    case SIRKLEMET_INVALID_ARGUMENT: return
+        "the statement asks for nothing: an INSERT of no rows, an UPDATE of no columns";
+    case SIRKLEMET_NO_STATEMENT: return
+        "the bytes of the statement are no statement: damaged, cut short, or something else";
+    case SIRKLEMET_NO_CATALOGUE: return
+        "the bytes of the catalogue are no catalogue: damaged, cut short, or something else";
+    case SIRKLEMET_PAST_A_LIMIT: return
+        "the statement or the catalogue is larger than is taken: its bytes, a name, a list, or how deep an expression goes";
+    case SIRKLEMET_NAME_BEYOND_ASCII: return
+        "a name with letters beyond ASCII stands without quotes: put it in double quotes";
+    case SIRKLEMET_NO_ROOM: return
+        "the answer is longer than the room that was given for it";
+    case SIRKLEMET_NO_ROW: return
+        "the bytes of the row are no row of the table";
+    case SIRKLEMET_FAULT: return
+        "working out a value fails: a division by zero, or a result beyond 64 bits";
+    case SIRKLEMET_NO_UPDATE: return
+        "only an UPDATE can be run on a row";
+    default: return "";
+    }
+}
+
+/* Binds a statement against a catalogue. 0: *written bytes of the bound statement's image are at the front of out, and the
+ * bytes behind them are as they were. Else the number of the refusal: *written is 0, and out is as it was. The bytes of
+ * out and *written overlap neither each other nor the inputs. */
+uint8_t sirklemet_bind(const uint8_t *statement, size_t statement_length, const uint8_t *catalogue, size_t catalogue_length,
+                       uint8_t *out, size_t out_length, size_t *written);
 
 /* Whether bytes are the image of a statement, of a catalogue, of a row of whatever table (docs/IMAGES.md), whatever its
  * size. */

@@ -1,12 +1,32 @@
-// The readers as C calls them: a slice is a pointer and a length, and any bytes will do. Nothing is judged here that a reader below does not judge.
+// The public operations and the readers as C calls them: a slice is a pointer and a length, and any bytes will do. Nothing is judged here that
+// a crate below does not judge.
 use sirklemet::received;
 ghost use mathlib.Core.Path.{_≡_};
+ghost use lib.ListN.{length};
 ghost use Rattle.bundle.specs.Bundle.{isThere};
 ghost use Rattle.statement.specs.Layout.{statement};
 ghost use Rattle.catalogue.specs.Layout.{catalogue};
 ghost use Rattle.row.specs.Layout.{row};
+ghost use Rattle.sirklemet.specs.Entry.{bindBytes};
+ghost use Rattle.sirklemet.specs.Leaves.{Leaves, reply};
 ghost use Rattle.sirklemet.specs.Told.{toldOfStatement, toldOfCatalogue};
 ghost use Rattle.faces.specs.Told.{toldObeys};
+
+// 0, with `written` bytes of the bound statement at the front of `out`; or the number of a refusal, with `written` 0 and `out` as it was.
+#[no_mangle]
+pub extern "C" fn sirklemet_bind(
+    statement: &[u8],
+    catalogue: &[u8],
+    out: &mut [u8],
+    written: &mut usize,
+) -> u8
+    ensures { λ r. ⌜ Leaves (bindBytes (now (statement .entry)) (now (catalogue .entry)) (length (now (out .entry)))) (now (out .entry))
+        (reply r (now (written .exit))) (now (out .exit)) ⌝ }
+{
+    let heard = sirklemet::bind(statement, catalogue, out);
+    *written = heard.length;
+    heard.refusal
+}
 
 #[no_mangle]
 pub extern "C" fn sirklemet_is_statement(bytes: &[u8]) -> bool

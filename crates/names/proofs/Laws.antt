@@ -7,7 +7,7 @@ use Prim.Native.Nat.{ℕ, suc, _+_, _≤_, _<_}
 use native.Mathlib.Numerals.{add-one}
 use native.Mathlib.Omega.{arith}
 use lib.Dec.{eqb}
-use lib.ListN.{length, getD, take, drop, set, drop-of-length-le}
+use lib.ListN.{length, length-map, getD, take, drop, set, drop-of-length-le}
 use lib.Seq.{drop-cons, take-suc, take-suc-set, take-all}
 use borrow.Author.Tests.{eq-eqb, ne-eqb}
 use Rattle.rules.specs.Lists.{Text, same, any}
@@ -43,6 +43,19 @@ module _ (quoted : Bool) where
 pub agree-quoted : (a b : Text) → agreeing true a b ≡ same a b
 agree-quoted a b = ap₂ same (map-id a) (map-id b)
 
+-- ---- names of different lengths are different, whatever is folded
+
+pub same-longer : (a b : Text) → (length a ≡ length b → ⊥) → false ≡ same a b
+same-longer a b g = agree-longer true a b g ∙ agree-quoted a b
+
+compared-is : (quoted : Bool) (s : Text) → map (comparedByte quoted) s ≡ canonical (named quoted s)
+unfolding canonical
+compared-is true s = map-id s
+compared-is false s = refl
+
+pub canonical-long : (quoted : Bool) (s : Text) → length (canonical (named quoted s)) ≡ length s
+canonical-long quoted s = ap length (sym (compared-is quoted s)) ∙ length-map s (comparedByte quoted)
+
 -- ---- some byte that passes a test
 
 module _ (p : ℕ → Bool) (s : Text) (i : ℕ) where
@@ -64,11 +77,6 @@ pub made-more : (f : ℕ → ℕ) (s room : Text) (i v : ℕ) → i < length s �
     → take i room ≡ map f (take i s) → take (i + 1) (set room i v) ≡ map f (take (i + 1) s)
 made-more f s room i v hs hr e m =
     rw (add-one, take-suc-set room i v hr, take-suc s i 0 hs, map-append, m, e)
-
-compared-is : (quoted : Bool) (s : Text) → map (comparedByte quoted) s ≡ canonical (named quoted s)
-unfolding canonical
-compared-is true s = map-id s
-compared-is false s = refl
 
 pub made-whole : (quoted : Bool) (s room : Text) (i : ℕ) → i ≤ length s → length s ≤ i → take i room ≡ map (comparedByte quoted) (take i s)
     → take (length s) room ≡ canonical (named quoted s)

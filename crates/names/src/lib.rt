@@ -97,6 +97,9 @@ pub fn is_called(quoted: bool, name: &[u8], other: &[u8]) -> bool
     requires { ⌜ length (now name) ≤ 128 ⌝ }
     ensures { λ r. ⌜ r ≡ same (canonical (named quoted (now (name .entry)))) (now (other .entry)) ⌝ }
 {
+    if name.len() != other.len() {
+        return false;
+    }
     let room = compared(quoted, name);
     let n = name.len();
     same(&room[..n], other)
@@ -107,6 +110,9 @@ pub fn are_same_name(q1: bool, n1: &[u8], q2: bool, n2: &[u8]) -> bool
     requires { ⌜ (length (now n1) ≤ 128) × (length (now n2) ≤ 128) ⌝ }
     ensures { λ r. ⌜ r ≡ same (canonical (named q1 (now (n1 .entry)))) (canonical (named q2 (now (n2 .entry)))) ⌝ }
 {
+    if n1.len() != n2.len() {
+        return false;
+    }
     let room = compared(q2, n2);
     let n = n2.len();
     is_called(q1, n1, &room[..n])

@@ -167,12 +167,12 @@ fn put_items(out: &mut [u8], row: usize, to: usize, t: &[u8], s: &[u8]) -> Curso
     ensures { λ r. ⌜ ((v : TableSchema) (xs : List Item) (cs : List BoundColumnRef) → Holds table (now (t .entry)) v → Holds (listOf 2 layout.item) (now (s .entry)) xs
         → projection v xs ≡ given cs → Laid boundColumnRef cs (now (out .entry)) row to (r .row) (r .to) (now (out .exit))) ⌝ }
 {
-    let n = bundle::parts(s, 2);
+    let items = bundle::parts(s, 2);
     let mut entry = row;
     let mut part = to;
     let mut at = bundle::first(s, 2);
     let mut i = 0;
-    while i < n {
+    while i < items {
         let end = bundle::next(s, 2, i, at);
         let next = put_item(out, entry, part, t, &s[at..end]);
         entry = next.row;

@@ -33,15 +33,29 @@ fn size(head: &[u8; 17], at: usize) -> usize
     wire::get(head, at, 4) as usize
 }
 
-fn filled(fd: i32, bytes: &mut [u8], answer: u8, statement: usize, from: usize) -> Told {
+fn filled(
+    fd: i32,
+    bytes: &mut [u8],
+    answer: u8,
+    room: usize,
+    statement: usize,
+    from: usize,
+) -> Told {
     if !fills(fd, bytes) {
         return told::damaged();
     }
-    told::compared(answer, bytes, statement, from)
+    told::compared(answer, room, bytes, statement, from)
 }
 
 // The bytes of a case: the statement, the catalogue and the bound statement, one behind the other.
-fn body(fd: i32, answer: u8, statement: usize, catalogue: usize, bound: usize) -> Told {
+fn body(
+    fd: i32,
+    answer: u8,
+    room: usize,
+    statement: usize,
+    catalogue: usize,
+    bound: usize,
+) -> Told {
     if LONGEST < statement {
         return told::damaged();
     }
@@ -54,7 +68,7 @@ fn body(fd: i32, answer: u8, statement: usize, catalogue: usize, bound: usize) -
     let from = statement + catalogue;
     let end = from + bound;
     let mut space = [0u8; 4500];
-    filled(fd, &mut space[..end], answer, statement, from)
+    filled(fd, &mut space[..end], answer, room, statement, from)
 }
 
 // In front of a case's bytes: the answer (1 byte), the room, and the three lengths (4 bytes each).
@@ -64,8 +78,9 @@ pub fn next(fd: i32) -> Told {
         return told::damaged();
     }
     let answer = head[0];
+    let room = size(&head, 1);
     let statement = size(&head, 5);
     let catalogue = size(&head, 9);
     let bound = size(&head, 13);
-    body(fd, answer, statement, catalogue, bound)
+    body(fd, answer, room, statement, catalogue, bound)
 }

@@ -13,11 +13,11 @@ use Rattle.projected.proofs.put_items.Statement.{statement}
 use Rattle.projected.proofs.put_items.Tie as tie
 
 abbrev Inv-loop : tie.InvT-loop
-Inv-loop out₀ row to t s n entry₀ part₀ at₀ i₀ out entry part at i =
-    Along s n i at × ((w : ItemsRoom t s row to out₀) → Put (w .made .schema) (w .made .value) (w .made .columns) i out₀ row to entry part out)
+Inv-loop out₀ row to t s items entry₀ part₀ at₀ i₀ out entry part at i =
+    Along s items i at × ((w : ItemsRoom t s row to out₀) → Put (w .made .schema) (w .made .value) (w .made .columns) i out₀ row to entry part out)
 
 abbrev μ-loop : tie.MeasureT-loop
-μ-loop out₀ row to t s n entry₀ part₀ at₀ i₀ out entry part at i = n - i
+μ-loop out₀ row to t s items entry₀ part₀ at₀ i₀ out entry part at i = items - i
 
 parts-requires : tie.Need-parts-requires Inv-loop μ-loop
 parts-requires c κs = (omega arith, list-bundle item {s = c .before .before .before .args .s .now} (c .before .before .before .pre .within .is))

@@ -6,10 +6,10 @@ use Rattle.replay.proofs.replay.Statement.{statement}
 use Rattle.replay.proofs.replay.Tie as tie
 
 abbrev Inv-loop : tie.InvT-loop
-Inv-loop fd cases done₀ catalogues₀ texts₀ differences₀ done catalogues texts differences = (done ≤ cases) × (catalogues ≤ done) × (texts ≤ done) × (differences ≤ done)
+Inv-loop fd cases done₀ bound₀ differences₀ done bound differences = (done ≤ cases) × (bound ≤ done) × (differences ≤ done)
 
 abbrev μ-loop : tie.MeasureT-loop
-μ-loop fd cases done₀ catalogues₀ texts₀ differences₀ done catalogues texts differences = cases - done
+μ-loop fd cases done₀ bound₀ differences₀ done bound differences = cases - done
 
 say-damage-requires : tie.Need-say-damage-requires Inv-loop μ-loop
 say-damage-requires c κs = search needs
@@ -35,17 +35,11 @@ say-difference-requires c κs = search needs
 one-requires : tie.Need-one-requires Inv-loop μ-loop
 one-requires c κs = search needs
 
-add-catalogues : tie.Need-add-catalogues Inv-loop μ-loop
-add-catalogues c = search needs
+add-bound : tie.Need-add-bound Inv-loop μ-loop
+add-bound c = search needs
 
 one-requires-2 : tie.Need-one-requires-2 Inv-loop μ-loop
 one-requires-2 c κs = search needs
-
-add-texts : tie.Need-add-texts Inv-loop μ-loop
-add-texts c = search needs
-
-one-requires-3 : tie.Need-one-requires-3 Inv-loop μ-loop
-one-requires-3 c κs = search needs
 
 add-differences : tie.Need-add-differences Inv-loop μ-loop
 add-differences c = search needs
@@ -88,10 +82,8 @@ replay-spec =
     returns-2
     say-difference-requires
     one-requires
-    add-catalogues
+    add-bound
     one-requires-2
-    add-texts
-    one-requires-3
     add-differences
     add-done
     loop-less

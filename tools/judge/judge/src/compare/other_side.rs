@@ -1,20 +1,12 @@
-//! The side that is compared with the Rust.
-//!
-//! Today there is none in the repository: `tools/compare` then runs the Rust alone. The binder is to come as a static
-//! library made by `rt staticlib`. To compare with it:
+//! The side that is compared with the Rust: the binder of a static library that `rt staticlib faces` writes. Without one,
+//! `tools/compare` runs the Rust alone. To compare with it:
 //!
 //! ```text
-//! SIRKLEMET_STATICLIB=path/to/libNAME.a tools/compare --seed 1 --count 100000
+//! SIRKLEMET_STATICLIB=target/staticlib/libfaces.a tools/compare --seed 1 --count 100000
 //! ```
 //!
-//! The library exports, with the C calling convention,
-//!
-//! ```text
-//! sirklemet_bind(statement: &[u8], catalogue: &[u8], out: &mut [u8]) -> u64
-//! ```
-//!
-//! (plain `bind` is taken: it is the socket call of the C library, which the linker would find instead). A slice passes as a pointer and then a length. The answer is 256 times the length written, plus the number of the
-//! refusal, which is 0 where the statement binds.
+//! The library exports `sirklemet_bind` as crates/faces/sirklemet.h declares it. (Plain `bind` is taken: it is the socket
+//! call of the C library, which the linker would find instead.)
 
 /// What a binder answers: 0 and the length of the bound image, which it wrote to the front of the output, or the number
 /// of a refusal and length 0.
@@ -40,7 +32,8 @@ pub mod linked {
             catalogue_length: usize,
             out: *mut u8,
             out_length: usize,
-        ) -> u64;
+            written: *mut usize,
+        ) -> u8;
     }
 
     /// The binder of the static library.
@@ -48,9 +41,10 @@ pub mod linked {
 
     impl OtherSide for LinkedBinder {
         fn bind(&mut self, statement: &[u8], catalogue: &[u8], out: &mut [u8]) -> Reply {
-            // SAFETY: the library reads the two inputs and writes the output within the lengths given, as its contract
-            // says.
-            let answer = unsafe {
+            let mut length = 0;
+            // SAFETY: the library reads the two inputs and writes the output within the lengths given, and one number, as
+            // its contract says.
+            let number = unsafe {
                 sirklemet_bind(
                     statement.as_ptr(),
                     statement.len(),
@@ -58,9 +52,10 @@ pub mod linked {
                     catalogue.len(),
                     out.as_mut_ptr(),
                     out.len(),
+                    &mut length,
                 )
             };
-            Reply { number: (answer % 256) as u8, length: (answer / 256) as usize }
+            Reply { number, length }
         }
     }
 }

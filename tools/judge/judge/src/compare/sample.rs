@@ -74,6 +74,11 @@ pub fn chosen(seed: u64, count: usize, mut admits: impl FnMut(&Case, &Verdict) -
             found.entry(key).or_default().push((made.case.size(), index));
         }
     }
+    in_turn(found, count)
+}
+
+/// `count` numbers of cases, taken in turn for every key, small cases first. With each number stands the case's size.
+pub fn in_turn(found: BTreeMap<String, Vec<(usize, u64)>>, count: usize) -> BTreeSet<u64> {
     let mut queues: Vec<Vec<u64>> = found.into_values().map(smallest_last).collect();
     let mut chosen = BTreeSet::new();
     while chosen.len() < count && queues.iter().any(|queue| !queue.is_empty()) {

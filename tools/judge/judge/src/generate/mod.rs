@@ -2,11 +2,11 @@
 //! in its catalogue, so that every test of the Rust is reached alone and in conflict with every other. Case number i of
 //! a seed does not depend on the cases before it.
 
-mod catalogues;
-mod expressions;
+pub mod catalogues;
+pub mod expressions;
 mod faults;
 mod names;
-mod statements;
+pub mod statements;
 mod texts;
 
 use images::catalogue::Catalogue;
@@ -110,7 +110,7 @@ fn base(rng: &mut Rng) -> Draft {
 }
 
 /// Tries faults until one can be planted, and says which. Some can always be.
-fn plant_some_fault(rng: &mut Rng, fault_seed: u64, draft: &mut Draft) -> usize {
+pub fn plant_some_fault(rng: &mut Rng, fault_seed: u64, draft: &mut Draft) -> usize {
     loop {
         let place = rng.below(FAULTS.len());
         let fault = &FAULTS[place];
@@ -139,7 +139,8 @@ fn nonsense(rng: &mut Rng) -> Planted {
 }
 
 impl Draft {
-    fn finish(&self) -> Case {
+    /// The bytes of the statement and of the catalogue.
+    pub fn images(&self) -> (Vec<u8>, Vec<u8>) {
         let mut statement = self.statement.encode().unwrap_or_default();
         let mut catalogue = self.catalogue.encode_unjudged().unwrap_or_default();
         if let Some(seed) = self.statement_damage {
@@ -148,6 +149,11 @@ impl Draft {
         if let Some(seed) = self.catalogue_damage {
             damage_bytes(&mut Rng::new(seed), &mut catalogue);
         }
+        (statement, catalogue)
+    }
+
+    fn finish(&self) -> Case {
+        let (statement, catalogue) = self.images();
         let room = self.room.bytes(&statement, &catalogue);
         Case { statement, catalogue, room }
     }

@@ -148,7 +148,8 @@ pub fn item(rng: &mut Rng, table: &CatalogueTable) -> Item {
     Item::Name(spell(rng, name))
 }
 
-fn update(rng: &mut Rng, table: &CatalogueTable) -> Tree {
+/// Of a table with nothing but its key a DELETE.
+pub fn update(rng: &mut Rng, table: &CatalogueTable) -> Tree {
     let mut targets: Vec<&Column> = table.columns.iter().filter(|column| !table.key.contains(&column.id)).collect();
     if targets.is_empty() {
         return delete(rng, table);
