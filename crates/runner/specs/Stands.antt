@@ -85,6 +85,10 @@ pub record Stands (c b : List ℕ) (u : Running) : Type 0 where
   pub filters : change .condition ≡ some (u .condition)
   pub assigns : change .assignments ≡ u .assignments
 
+pub record SomeStands (c b : List ℕ) : Type 0 where
+  pub value : Running
+  pub is : Stands c b value
+
 module _ {s c b : List ℕ} (h : Received s c) {u : Running} (r : Dispatched (h .tables) (h .value) u)
     (body : (v : Statement) → Holds statement s v → KindHolds (v .kind) b) where
   behind : Behind updating update s b
@@ -117,6 +121,10 @@ pub record Over (t b : List ℕ) (u : Running) : Type 0 where
   pub limited : Limited b
   pub filters : change .condition ≡ some (u .condition)
   pub assigns : change .assignments ≡ u .assignments
+
+pub record SomeOver (t b : List ℕ) : Type 0 where
+  pub value : Running
+  pub is : Over t b value
 
 pub stands-over : {c b : List ℕ} {u : Running} (z : Stands c b u) {i e : ℕ} → TableGiven c (resolveDirectTable (z .tables) (z .change .table)) i e
     → Over (take (e - i) (drop i c)) b u
