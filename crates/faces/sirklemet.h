@@ -1,4 +1,4 @@
-/* The proved binder and readers, from the static library that `rt staticlib faces` writes (target/staticlib/libfaces.a).
+/* The proved binder, runner and readers, from the static library that `rt staticlib faces` writes (target/staticlib/libfaces.a).
  *
  * Bytes pass as a pointer and a length. The pointer is not NULL, also where the length is 0, and as many bytes can be
  * read there. Any bytes will do otherwise: each function ends, reads nothing else, and writes nothing but what is said to
@@ -14,7 +14,7 @@
 extern "C" {
 #endif
 
-/* Why something is refused (docs/REFUSALS.md). Binding refuses with 1 to 9. */
+/* Why something is refused (docs/REFUSALS.md). Binding refuses with 1 to 9, running with any. */
 enum sirklemet_refusal {
     SIRKLEMET_SCHEMA_MISMATCH = 1,
     SIRKLEMET_CONSTRAINT_VIOLATION = 2,
@@ -67,6 +67,11 @@ static inline const char *sirklemet_words(uint8_t refusal)
  * out and *written overlap neither each other nor the inputs. */
 uint8_t sirklemet_bind(const uint8_t *statement, size_t statement_length, const uint8_t *catalogue, size_t catalogue_length,
                        uint8_t *out, size_t out_length, size_t *written);
+
+/* Runs a statement, which is an UPDATE, on one row of its table. 0: *written bytes of the new row's image are at the front
+ * of out. The rest is as of sirklemet_bind. */
+uint8_t sirklemet_run(const uint8_t *statement, size_t statement_length, const uint8_t *catalogue, size_t catalogue_length,
+                      const uint8_t *row, size_t row_length, uint8_t *out, size_t out_length, size_t *written);
 
 /* Whether bytes are the image of a statement, of a catalogue, of a row of whatever table (docs/IMAGES.md), whatever its
  * size. */

@@ -7,7 +7,7 @@ ghost use Rattle.bundle.specs.Bundle.{isThere};
 ghost use Rattle.statement.specs.Layout.{statement};
 ghost use Rattle.catalogue.specs.Layout.{catalogue};
 ghost use Rattle.row.specs.Layout.{row};
-ghost use Rattle.sirklemet.specs.Entry.{bindBytes};
+ghost use Rattle.sirklemet.specs.Entry.{bindBytes, runBytes};
 ghost use Rattle.sirklemet.specs.Leaves.{Leaves, reply};
 ghost use Rattle.sirklemet.specs.Told.{toldOfStatement, toldOfCatalogue};
 ghost use Rattle.faces.specs.Told.{toldObeys};
@@ -26,6 +26,23 @@ pub extern "C" fn sirklemet_bind(
     let heard = sirklemet::bind(statement, catalogue, out);
     *written = heard.length;
     heard.refusal
+}
+
+// The same of an UPDATE that is run on one row: the new row at the front of `out`, or a refusal.
+#[no_mangle]
+pub extern "C" fn sirklemet_run<'a>(
+    statement: &'a [u8],
+    catalogue: &'a [u8],
+    row: &'a [u8],
+    out: &mut [u8],
+    written: &mut usize,
+) -> u8
+    ensures { λ r. ⌜ Leaves (runBytes (now (statement .entry)) (now (catalogue .entry)) (now (row .entry)) (length (now (out .entry))))
+        (now (out .entry)) (reply r (now (written .exit))) (now (out .exit)) ⌝ }
+{
+    let ran = runner::run(statement, catalogue, row, out);
+    *written = ran.length;
+    ran.refusal
 }
 
 #[no_mangle]

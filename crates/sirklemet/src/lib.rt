@@ -30,7 +30,7 @@ pub fn refused(number: u8) -> Reply
 }
 
 // 1 to 4.
-fn class_number(r: Refusal) -> u8
+pub fn class_number(r: Refusal) -> u8
     ensures { λ k. ⌜ k ≡ classNo (r .class) ⌝ }
 {
     let class = r.class;

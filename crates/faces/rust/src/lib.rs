@@ -1,4 +1,4 @@
-//! The proved binder and readers. Each takes any bytes, ends, and reads nothing but them; what it answers is proved
+//! The proved binder, runner and readers. Each takes any bytes, ends, and reads nothing but them; what it answers is proved
 //! (docs/PROVED.md).
 
 mod refusal;
@@ -13,6 +13,17 @@ mod library {
             statement_length: usize,
             catalogue: *const u8,
             catalogue_length: usize,
+            out: *mut u8,
+            out_length: usize,
+            written: *mut usize,
+        ) -> u8;
+        pub fn sirklemet_run(
+            statement: *const u8,
+            statement_length: usize,
+            catalogue: *const u8,
+            catalogue_length: usize,
+            row: *const u8,
+            row_length: usize,
             out: *mut u8,
             out_length: usize,
             written: *mut usize,
@@ -48,6 +59,31 @@ pub fn bind(statement: &[u8], catalogue: &[u8], out: &mut [u8]) -> Result<usize,
             &mut written,
         )
     };
+    answered(number, written)
+}
+
+/// Runs a statement, which is an UPDATE, on one row of its table. The answer is the length of the new row's image, which is
+/// then at the front of `out`; the bytes behind it stay. A refusal leaves all of `out` as it was.
+pub fn run(statement: &[u8], catalogue: &[u8], row: &[u8], out: &mut [u8]) -> Result<usize, Refusal> {
+    let mut written = 0;
+    // SAFETY: as above.
+    let number = unsafe {
+        library::sirklemet_run(
+            statement.as_ptr(),
+            statement.len(),
+            catalogue.as_ptr(),
+            catalogue.len(),
+            row.as_ptr(),
+            row.len(),
+            out.as_mut_ptr(),
+            out.len(),
+            &mut written,
+        )
+    };
+    answered(number, written)
+}
+
+fn answered(number: u8, written: usize) -> Result<usize, Refusal> {
     match Refusal::of_number(number) {
         Some(refusal) => Err(refusal),
         None if number == 0 => Ok(written),

@@ -1,14 +1,7 @@
 //! The runner that is compared with the judges.
 //!
-//! With SIRKLEMET_STATICLIB, the path of a file made by `rt staticlib`, it is the one of that library, which exports
-//! with the C calling convention
-//!
-//! ```text
-//! sirklemet_run(statement: &[u8], catalogue: &[u8], row: &[u8], out: &mut [u8]) -> u64
-//! ```
-//!
-//! A slice passes as a pointer and then a length. The answer is 256 times the length written, plus the number of the
-//! refusal, which is 0 where there is a row.
+//! With SIRKLEMET_STATICLIB, the path of the file that `rt staticlib faces` writes, it is the one of that library, which
+//! exports `sirklemet_run` as crates/faces/sirklemet.h declares it.
 
 use crate::generate::Case;
 
@@ -38,7 +31,8 @@ pub mod linked {
             row_length: usize,
             out: *mut u8,
             out_length: usize,
-        ) -> u64;
+            written: *mut usize,
+        ) -> u8;
     }
 
     /// The runner of the static library.
@@ -46,9 +40,10 @@ pub mod linked {
 
     impl OtherSide for LinkedRunner {
         fn run(&mut self, case: &Case, out: &mut [u8]) -> Reply {
-            // SAFETY: the library reads the three inputs and writes the output within the lengths given, as its
-            // contract says.
-            let answer = unsafe {
+            let mut length = 0;
+            // SAFETY: the library reads the three inputs and writes the output within the lengths given, and one number,
+            // as its contract says.
+            let number = unsafe {
                 sirklemet_run(
                     case.statement.as_ptr(),
                     case.statement.len(),
@@ -58,9 +53,10 @@ pub mod linked {
                     case.row.len(),
                     out.as_mut_ptr(),
                     out.len(),
+                    &mut length,
                 )
             };
-            Reply { number: (answer % 256) as u8, length: (answer / 256) as usize }
+            Reply { number, length }
         }
     }
 }

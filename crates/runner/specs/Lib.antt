@@ -1,0 +1,6 @@
+pub mod Asked
+pub mod Runs
+pub mod Stands
+pub mod Ready
+pub mod Rows
+pub mod Replied

@@ -1,0 +1,53 @@
+-- What the row is made of, once its table is found and the row obeys it: the bytes of each part.
+-- Assumes nothing.
+use mathlib.Core.Path.{_≡_, sym, ap, _∙_, subst}
+use mathlib.Core.Bool.{Bool, true}
+use mathlib.Core.List.{List}
+use mathlib.Core.Option.{Option, some}
+use Prim.Native.Nat.{ℕ, _≤_}
+use lib.ListN.{length}
+use Rattle.codec.specs.Layout.{listOf}
+use Rattle.bundle.specs.Held.{Is, Holds, is-held, held-once}
+use Rattle.catalogue.specs.Layout.{table}
+use Rattle.expression.specs.Expression.{expression}
+use Rattle.filtering.specs.There.{There, there-reads, there-short}
+use Rattle.row.specs.Layout.{row}
+use Rattle.row.specs.Obeyed.{obeyed}
+use Rattle.rules.specs.Heard.{Running}
+use Rattle.rules.specs.Statements.{Assignment, Expr, Update}
+use Rattle.rules.specs.Tables.{TableSchema}
+use Rattle.statement.specs.Layout.{condition, assignment, updating}
+use Rattle.updating.specs.Within.{update-assignments, update-condition}
+use Rattle.running.specs.Updates.{Runnable}
+use Rattle.runner.specs.Stands.{Over}
+
+-- t holds the table, s the assignments, w the condition
+pub record Holding (t s w : List ℕ) (u : Running) : Type 0 where
+  pub schema : Holds table t (u .table)
+  pub assigns : Holds (listOf 2 assignment) s (u .assignments)
+  pub filters : Holds expression w (u .condition)
+
+-- the condition is there
+abbrev filtered : {t b w : List ℕ} {u : Running} → Over t b u → ((v : Update) → Holds updating b v → Holds condition w (v .condition)) → There w
+filtered {u = u} o q = record { value = u .condition; holds = q (o .change) (o .reads) ∙ ap some (o .filters) }
+
+module _ {t b s w : List ℕ} {u : Running} (o : Over t b u) (p : (v : Update) → Holds updating b v → Holds (listOf 2 assignment) s (v .assignments))
+    (q : (v : Update) → Holds updating b v → Holds condition w (v .condition)) where
+  pub holding : Holding t s w u
+  holding = record {
+    schema = o .holds;
+    assigns = p (o .change) (o .reads) ∙ ap some (o .assigns);
+    filters = there-reads (filtered o q);
+  }
+
+  -- all of it is within the limits, and r is a row that obeys the table
+  pub ready : {r : List ℕ} {a : Bool} → ((v : TableSchema) → Holds table t v → a ≡ obeyed v (row .read r)) → a ≡ true → Runnable t s w r
+  ready k e = record {
+    runs = record {
+      schema = is-held {f = table} (o .holds);
+      few = λ v h. subst (λ (x : TableSchema). length (x .columns) ≤ 64) (held-once table (o .holds) h) (o .few);
+      obeys = record { obeys = λ v h. sym (k v h) ∙ e };
+    };
+    names = update-assignments (o .limited) (is-held {f = updating} (o .reads)) p;
+    expression = there-short (filtered o q) (update-condition (o .limited) (is-held {f = updating} (o .reads)) q);
+  }
