@@ -6,6 +6,9 @@ fn main() {
     if sqlite_links() {
         println!("cargo:rustc-cfg=sqlite");
         println!("cargo:rustc-link-lib=sqlite3");
+    } else {
+        // Cargo looks again at each build for a file that is not there: the library may have come since.
+        println!("cargo:rerun-if-changed=no-such-file");
     }
     link_other_side();
 }
