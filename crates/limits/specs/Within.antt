@@ -4,9 +4,11 @@ use mathlib.Core.Path.{_≡_, refl, sym, ap, ap₂, _∙_}
 use mathlib.Core.Bool.{Bool, true, _&&_, and-assoc, and-comm, and-true}
 use mathlib.Core.Option.{Option}
 use mathlib.Core.List.{List, [], _∷_, map}
-use Prim.Native.Nat.{ℕ}
+use Prim.Native.Nat.{ℕ, _≤_}
+use native.Mathlib.Omega.{arith}
+use borrow.Author.Tests.{le-leb}
 use lib.ListN.{length}
-use Rattle.tree.specs.Tree.{depth}
+use Rattle.tree.specs.Tree.{leaf, un, bin, size, depth}
 use Rattle.bundle.specs.Decides.{Decides}
 use Rattle.rules.specs.Lists.{all}
 use Rattle.rules.specs.Statements.{
@@ -57,6 +59,16 @@ use Rattle.limits.specs.Gathered.{and-left-comm, all-gather, all-map, al
 
 abbrev pub Shallow : Expr → Bool
 Shallow e = atMost 64 (depth e)
+
+-- no tree is deeper than it has nodes
+depth-size : (e : Expr) → depth e ≤ size e
+unfolding depth size
+depth-size (leaf l) = omega arith
+depth-size (un o a) = omega (arith, depth-size a)
+depth-size (bin o a b) = omega (arith, depth-size a, depth-size b)
+
+pub few-shallow : (e : Expr) → size e ≤ 64 → true ≡ Shallow e
+few-shallow e h = sym (le-leb (depth e) 64 (omega (arith, depth-size e)))
 
 unfoldable pub expressionWithin : Expr → Bool
 expressionWithin e = all Within (expressionNames e) && Shallow e

@@ -14,7 +14,12 @@ pub fn is_expression_within(e: &[u8]) -> bool
     if !expression::names_within(e) {
         return false;
     }
-    expression::depth_at_most(e, expression::nodes(e) - 1, 64)
+    let n = expression::nodes(e);
+    // no tree is deeper than it has nodes
+    if n <= 64 {
+        return true;
+    }
+    expression::depth_at_most(e, n - 1, 64)
 }
 
 // A condition may be absent.

@@ -14,7 +14,8 @@ use borrow.Author.Tests.{lt-leb, le-leb, lt-ltb, ltb-false, eq-eqb, ne-eqb}
 use Rattle.rules.specs.Lists.{Text}
 use Rattle.rules.specs.Trimmed
 use Rattle.trim.specs.declared.Range.{Range}
-use Rattle.rules.specs.Trimmed.{within, width, frontWidth, backWidth, cutFront, cutBack, off, lastBut, withoutSemicolon}
+use Rattle.trim.specs.Plain.{Plain}
+use Rattle.rules.specs.Trimmed.{within, white1, white2, white3, width, frontWidth, backWidth, cutFront, cutBack, off, lastBut, withoutSemicolon}
 
 -- ---- the table, as the code has it: the range at i is passed, or it is where c lies
 
@@ -53,6 +54,57 @@ width-le n p q r = first (ltb n 1) (ltb n 2) (ltb n 3) p q r (ltb-false n 1) (lt
     first false false true false false r f g h = zero-le
     first false false false false false true f g h = h refl
     first false false false false false false f g h = zero-le
+
+-- ---- a plain byte at an end: no white space is there
+
+none-wide : (n : ℕ) → 0 ≡ width n false false false
+unfolding width
+none-wide n = go (ltb n 1) (ltb n 2) (ltb n 3)
+  where
+    go : (a b c : Bool) → _≡_ {A = ℕ} 0 (cond a 0 (cond b 0 (cond c 0 0)))
+    go true b c = refl
+    go false true c = refl
+    go false false true = refl
+    go false false false = refl
+
+plain-one : (a : ℕ) → Plain a → white1 a ≡ false
+unfolding white1 within
+plain-one a h =
+    simp (
+      lt-leb a 0xD (omega arith),
+      lt-leb a 0x20 (omega arith),
+      lt-leb 0x85 a (omega arith),
+      lt-leb 0xA0 a (omega arith),
+      lt-leb 0x1680 a (omega arith),
+      lt-leb 0x2000 a (omega arith),
+      lt-leb 0x2028 a (omega arith),
+      lt-leb 0x202F a (omega arith),
+      lt-leb 0x205F a (omega arith),
+      lt-leb 0x3000 a (omega arith),
+      and-false,
+    )
+
+plain-two-front : (a b : ℕ) → Plain a → white2 a b ≡ false
+unfolding white2
+plain-two-front a b h = simp (lt-leb 192 a (omega arith), and-false)
+
+plain-three-front : (a b c : ℕ) → Plain a → white3 a b c ≡ false
+unfolding white3
+plain-three-front a b c h = simp (lt-leb 224 a (omega arith), and-false)
+
+plain-two-back : (a b : ℕ) → Plain b → white2 a b ≡ false
+unfolding white2
+plain-two-back a b h = simp (lt-leb 128 b (omega arith))
+
+plain-three-back : (a b c : ℕ) → Plain c → white3 a b c ≡ false
+unfolding white3
+plain-three-back a b c h = simp (lt-leb 128 c (omega arith), and-false)
+
+pub plain-front : (s : Text) → Plain (getD s 0 0) → 0 ≡ frontWidth s
+plain-front s h = rw (plain-one _ h, plain-two-front _ (getD s 1 0) h, plain-three-front _ (getD s 1 0) (getD s 2 0) h) (none-wide (length s))
+
+pub plain-back : (s : Text) → Plain (lastBut 1 s) → 0 ≡ backWidth s
+plain-back s h = rw (plain-one _ h, plain-two-back (lastBut 2 s) _ h, plain-three-back (lastBut 3 s) (lastBut 2 s) _ h) (none-wide (length s))
 
 -- ---- white space that is taken off: what is left of s is t, from which it is to be taken off `times` times more at most
 

@@ -1,9 +1,11 @@
 // White space at both ends of UTF-8 text, by a table of ranges of code points, and the statement that the text alone tells. What is
 // left of a text is a part of the text that was lent.
 ghost use mathlib.Core.Path.{_≡_};
+ghost use mathlib.Core.Bool.{true};
 ghost use lib.ListN.{getD};
 ghost use Rattle.rules.specs.Trimmed.{white, white1, white2, white3, width, lastBut, frontWidth, backWidth, trimmedFront, trimmedBack, trimmed};
 ghost use Rattle.rules.specs.Trimmed.{withoutSemicolon, dispatched, isShowTransactions};
+ghost use Rattle.trim.specs.Plain.{Plain};
 
 // From a code point to a code point.
 struct Range(u32, u32);
@@ -136,10 +138,23 @@ fn last_but(s: &[u8], k: usize) -> u8
     byte(s, s.len() - k)
 }
 
+// ASCII past the space: at an end of a text it alone tells that no white space is there.
+fn is_plain(b: u8) -> bool
+    ensures { λ r. ⌜ (r ≡ true → Plain b) ⌝ }
+{
+    if b < 33 {
+        return false;
+    }
+    b < 128
+}
+
 fn front(s: &[u8]) -> usize
     ensures { λ r. ⌜ r ≡ frontWidth (now (s .entry)) ⌝ }
 {
     let a = byte(s, 0);
+    if is_plain(a) {
+        return 0;
+    }
     let b = byte(s, 1);
     let c = byte(s, 2);
     width(s.len(), one(a), two(a, b), three(a, b, c))
@@ -148,9 +163,12 @@ fn front(s: &[u8]) -> usize
 fn back(s: &[u8]) -> usize
     ensures { λ r. ⌜ r ≡ backWidth (now (s .entry)) ⌝ }
 {
+    let c = last_but(s, 1);
+    if is_plain(c) {
+        return 0;
+    }
     let a = last_but(s, 3);
     let b = last_but(s, 2);
-    let c = last_but(s, 1);
     width(s.len(), one(c), two(b, c), three(a, b, c))
 }
 

@@ -5,6 +5,7 @@ use mathlib.Core.Path.{_≡_, refl, sym, ap, _∙_}
 use mathlib.Core.Bool.{Bool, true, false, _&&_, and-true, and-false, and-assoc, false≢true}
 use mathlib.Core.List.{List, [], _∷_, foldl}
 use Prim.Native.Nat.{ℕ, zero, suc, _+_, _-_, _≤_, _<_}
+use native.Mathlib.Nat.{zero-add, suc-add}
 use native.Mathlib.Omega.{arith}
 use lib.Bits.{bitOr, or-lt, or-add-and, and-le-l, and-le-r}
 use lib.Dec.{ltb}
@@ -13,7 +14,7 @@ use lib.Seq.{drop-drop}
 use borrow.Author.Tests.{lt-ltb, le-ltb, ltb-true, ltb-false}
 use Rattle.utf8.specs.Utf8.{Utf8, Utf8.one}
 use Rattle.utf8.specs.Chars.{ascii}
-use Rattle.utf8.proofs.Grammar.{after1, heads8}
+use Rattle.utf8.proofs.Grammar.{after1, heads1, heads8}
 
 -- ---- ASCII at the front
 
@@ -30,17 +31,17 @@ no-room : (n : ℕ) → ascii (suc n) [] ≡ true → ⊥
 unfolding ascii
 no-room n e = false≢true e
 
-long : (n : ℕ) (s : List ℕ) → ascii n s ≡ true → n ≤ length s
+pub long : (n : ℕ) (s : List ℕ) → ascii n s ≡ true → n ≤ length s
 long zero s e = omega arith
 long (suc n) [] e = absurd (no-room n e)
 long (suc n) (a ∷ s) e = first n a s e (λ h f. omega (arith, long n s f))
 
-past : (n : ℕ) (s : List ℕ) → ascii n s ≡ true → Utf8 s → Utf8 (drop n s)
+pub past : (n : ℕ) (s : List ℕ) → ascii n s ≡ true → Utf8 s → Utf8 (drop n s)
 past zero s e u = u
 past (suc n) [] e u = absurd (no-room n e)
 past (suc n) (a ∷ s) e u = first n a s e (λ h f. past n s f (after1 (omega arith) u))
 
-whole : (n : ℕ) (s : List ℕ) → ascii n s ≡ true → Utf8 (drop n s) → Utf8 s
+pub whole : (n : ℕ) (s : List ℕ) → ascii n s ≡ true → Utf8 (drop n s) → Utf8 s
 whole zero s e u = u
 whole (suc n) [] e u = absurd (no-room n e)
 whole (suc n) (a ∷ s) e u = first n a s e (λ h f. one (omega arith) (whole n s f u))
@@ -50,6 +51,13 @@ unfolding ascii
 short zero s h = absurd (omega arith)
 short (suc n) [] h = refl
 short (suc n) (a ∷ s) h = rw (← short n s (omega arith)) (sym (and-false (ltb a 0x80)))
+
+-- some, and some more behind them
+more : (m n : ℕ) (s : List ℕ) → ascii m s ≡ true → ascii n (drop m s) ≡ true → ascii (m + n) s ≡ true
+unfolding ascii
+more zero n s e f = rw (zero-add n) f
+more (suc m) n [] e f = absurd (no-room m e)
+more (suc m) n (a ∷ s) e f = first m a s e (λ h g. rw (suc-add m n) (simp (lt-ltb a 0x80 h, more m n s g f)))
 
 -- the same, from an index on
 module _ (n : ℕ) (s : List ℕ) (i : ℕ) where
@@ -65,6 +73,17 @@ module _ (n : ℕ) (s : List ℕ) (i : ℕ) where
 
     pub ascii-back : Utf8 (drop (i + n) s) → Utf8 (drop i s)
     ascii-back u = whole n (drop i s) e (rw (← drop-drop n i s) at u)
+
+    pub ascii-more : ascii i s ≡ true → ascii (i + n) s ≡ true
+    ascii-more f = more i n s f e
+
+pub no-ascii : (s : List ℕ) → ascii 0 s ≡ true
+unfolding ascii
+no-ascii s = refl
+
+pub one-ascii : (s : List ℕ) (i : ℕ) → i < length s → getD s i 0 < 0x80 → ascii 1 (drop i s) ≡ true
+unfolding ascii
+one-ascii s i h k = rw (heads1 s i (omega arith)) (simp (lt-ltb (getD s i 0) 0x80 k))
 
 -- ---- bits gathered
 

@@ -4,7 +4,7 @@ use Prim.Native.Nat.{ℕ, _-_}
 use Rattle.bundle.specs.Decides.{stop, on, last, failed, passed}
 use Rattle.expression.specs.Laws.{some-node, placed}
 use Rattle.expression.specs.Place.{nodeAt, Root, IsImage}
-use Rattle.limits.specs.Within.{expression-within}
+use Rattle.limits.specs.Within.{expression-within, few-shallow}
 use Rattle.wire.specs.Le.{Bytes}
 use borrow.Author.Needs.{needs}
 use mathlib.Core.Path.{sym, subst}
@@ -27,17 +27,23 @@ nodes-requires c κs = search needs
 image : (c : tie.After-nodes) → IsImage (c .before .before .before .before .args .e .now)
 image c = record { reads = c .before .before .before .before .pre .there }
 
-sub-depth-at-most : tie.Need-sub-depth-at-most
-sub-depth-at-most c = omega (arith, some-node (bytes c) (image c), c .nodes .ensures)
-
-depth-at-most-requires : tie.Need-depth-at-most-requires
-depth-at-most-requires c κs = record { image = image c; within = omega (arith, some-node (bytes c) (image c), c .nodes .ensures) }
-
 returns-2 : tie.Need-returns-2
 returns-2 c = λ v h.
-    let s = c .before .before .before .before .before .args .e .now in
-    let root = subst (λ (n : ℕ). Root (nodeAt s) (n - 1) v) (sym (c .before .nodes .ensures)) (placed (bytes (c .before)) h .0) in
-    last (on (expression-within v) (passed (c .before .before .before .names-within .ensures v h) (c .before .before .if1 .left))) (c .depth-at-most .ensures v root)
+    let many = placed (bytes (c .before)) h .1 in
+    last (on (expression-within v) (passed (c .before .before .before .names-within .ensures v h) (c .before .before .if1 .left)))
+    (few-shallow v (omega (arith, many, c .before .nodes .ensures, c .if2 .taken)))
+
+sub-depth-at-most : tie.Need-sub-depth-at-most
+sub-depth-at-most c = omega (arith, some-node (bytes (c .before)) (image (c .before)), c .before .nodes .ensures)
+
+depth-at-most-requires : tie.Need-depth-at-most-requires
+depth-at-most-requires c κs = record { image = image (c .before); within = omega (arith, some-node (bytes (c .before)) (image (c .before)), c .before .nodes .ensures) }
+
+returns-3 : tie.Need-returns-3
+returns-3 c = λ v h.
+    let s = c .before .before .before .before .before .before .args .e .now in
+    let root = subst (λ (n : ℕ). Root (nodeAt s) (n - 1) v) (sym (c .before .before .nodes .ensures)) (placed (bytes (c .before .before)) h .0) in
+    last (on (expression-within v) (passed (c .before .before .before .before .names-within .ensures v h) (c .before .before .before .if1 .left))) (c .depth-at-most .ensures v root)
 
 pub is-expression-within-spec : {M : Type 1} → statement M
 is-expression-within-spec =
@@ -46,6 +52,7 @@ is-expression-within-spec =
     names-within-requires
     returns
     nodes-requires
+    returns-2
     sub-depth-at-most
     depth-at-most-requires
-    returns-2)
+    returns-3)
