@@ -8,16 +8,16 @@ use readers::operations::running::Running;
 #[test]
 fn bind_answers_damaged_images_as_the_rust_does() {
     let mut operation = Binding::default();
-    let comparison = compare(&mut operation, 5, 30_000);
-    assert_eq!((comparison.tally.all(), comparison.differences), (30_000, 0));
+    let comparison = compare(&mut operation, 5, 100_000);
+    assert_eq!((comparison.tally.all(), comparison.differences), (100_000, 0));
     assert!((0..=9).all(|number| comparison.tally.answered(number) > 0), "{}", comparison.tally.report());
 }
 
 #[test]
 fn run_answers_damaged_images_as_the_rust_does() {
     let mut operation = Running::default();
-    let comparison = compare(&mut operation, 5, 30_000);
-    assert_eq!((comparison.tally.all(), comparison.differences), (30_000, 0));
+    let comparison = compare(&mut operation, 5, 100_000);
+    assert_eq!((comparison.tally.all(), comparison.differences), (100_000, 0));
     assert!((0..=12).all(|number| comparison.tally.answered(number) > 0), "{}", comparison.tally.report());
 }
 

@@ -29,16 +29,19 @@ pub struct Comparison<'a> {
     pub first: Option<Difference>,
 }
 
-/// Of ten cases one is compared as it was made, six have one image damaged at one place, and three have one image
-/// spliced, or each.
+/// Of fifty cases one is compared as it was made, 39 have one image damaged at one place, and ten have one image spliced,
+/// or each. To make a case takes much longer than to compare a copy of it.
 pub fn compare(operation: &mut dyn Operation, seed: u64, count: u64) -> Comparison<'_> {
     let mut comparison = Comparison { operation, left: 0, tally: Tally::default(), differences: 0, first: None };
-    let (made, splices) = (count / 10, count / 10 * 3);
+    let (made, splices) = ((count / 50).max(LEAST_AS_MADE).min(count), count / 5);
     comparison.cases_as_made(seed, made);
-    comparison.every_copy(seed, count - made - splices);
-    comparison.splices(seed, splices);
+    comparison.every_copy(seed, (count - made).saturating_sub(splices));
+    comparison.splices(seed, splices.min(count - made));
     comparison
 }
+
+/// With the images at the limits, of which there are some 300.
+const LEAST_AS_MADE: u64 = 400;
 
 const RUNS: &str = include_str!(concat!(env!("CARGO_MANIFEST_DIR"), "/../../../examples/runs.catalogue.txt"));
 const BEFORE: &str = include_str!(concat!(env!("CARGO_MANIFEST_DIR"), "/../../../examples/before.row.txt"));
