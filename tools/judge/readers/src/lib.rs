@@ -1,4 +1,4 @@
-//! The proved readers, linked as a static library, beside the Rust decoder.
+//! The proved readers and the two public operations, linked as a static library, beside the Rust.
 
 pub mod compare;
 pub mod copies;
@@ -6,5 +6,7 @@ pub mod edges;
 pub mod made;
 pub mod measure;
 pub mod mistakes;
+pub mod operations;
 pub mod sides;
+pub mod stack;
 pub mod tally;

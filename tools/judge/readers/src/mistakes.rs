@@ -79,6 +79,11 @@ pub fn named(name: &str) -> Option<&'static Mistake> {
 }
 
 impl Mistake {
+    /// Whether it is about rows, which a binding is not given.
+    pub fn of_rows(&self) -> bool {
+        matches!(self.kind, Row | RowOf)
+    }
+
     pub fn told(&self, asked: &Asked, bytes: &[u8]) -> Told {
         if asked.kind() != self.kind {
             return rust(asked, bytes);

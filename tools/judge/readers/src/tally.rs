@@ -5,7 +5,7 @@ use std::collections::HashMap;
 use crate::copies::Way;
 use crate::sides::Kind;
 
-type Counts = [u64; Way::ALL.len()];
+pub type Counts = [u64; Way::ALL.len()];
 
 #[derive(Default)]
 pub struct Tally {
@@ -26,9 +26,7 @@ impl Tally {
     }
 
     pub fn report(&self) -> String {
-        let mut text = format!("{:<28}", "");
-        Way::ALL.iter().for_each(|way| text.push_str(&format!("{:>10}", way.name())));
-        text.push_str(&format!("{:>10}\n", "all"));
+        let mut text = heads("");
         for kind in Kind::ALL {
             for number in kind.numbers() {
                 let counts = self.counts.get(&(kind, *number)).copied().unwrap_or_default();
@@ -50,7 +48,15 @@ fn heading(kind: Kind, number: u8) -> String {
     }
 }
 
-fn line(heading: &str, counts: &Counts) -> String {
+/// The line above the counts.
+pub fn heads(first: &str) -> String {
+    let mut text = format!("{first:<28}");
+    Way::ALL.iter().for_each(|way| text.push_str(&format!("{:>10}", way.name())));
+    text.push_str(&format!("{:>10}\n", "all"));
+    text
+}
+
+pub fn line(heading: &str, counts: &Counts) -> String {
     let mut text = format!("{heading:<28}");
     counts.iter().for_each(|count| text.push_str(&format!("{count:>10}")));
     text.push_str(&format!("{:>10}\n", counts.iter().sum::<u64>()));

@@ -7,10 +7,10 @@ use judge::compare::mistakes::{mistaken, names};
 use judge::compare::record::record;
 use judge::compare::sample::sample;
 use judge::compare::shrink::shrink;
-use judge::compare::tally::Tally;
+use judge::compare::tally::{PAIRED, Tally};
 use judge::compare::{Outcome, Side, run_case};
 use judge::generate::{Case, planted};
-use judge::judge::{Answer, judge};
+use judge::judge::Answer;
 
 const HELP: &str = "\
 compare --seed S --count N    runs N cases of seed S on both sides and compares the answers: the number, the length, and
@@ -154,8 +154,10 @@ fn compare(command: &Command) -> Result<bool, String> {
         let outcome = run_case(&made.case, &mut other, index);
         tally.add(&made.case, &outcome.verdict);
         made.faults.iter().for_each(|fault| tally.add_fault(fault));
-        if let Some([one, two]) = made.alone() {
-            tally.add_pair(number(&one), number(&two));
+        if index - command.from < PAIRED
+            && let Some([one, two]) = made.alone()
+        {
+            tally.add_pair(one, two);
         }
         if outcome.difference.is_some() {
             differences += 1;
@@ -169,10 +171,6 @@ fn compare(command: &Command) -> Result<bool, String> {
     }
     println!("\n{} compared, {differences} differences", command.count);
     Ok(differences == 0)
-}
-
-fn number(case: &Case) -> u8 {
-    judge(&case.statement, &case.catalogue, case.room).number()
 }
 
 /// The smallest case that still differs, readably.

@@ -42,7 +42,7 @@ pub fn run_case(case: &Case, other: &mut Side, choice_seed: u64) -> Outcome {
             return Outcome { verdict, difference: Some("the Rust or an encoder panicked".to_string()) };
         }
     };
-    let difference = broken.or_else(|| compare_replies(case, &verdict.answer, other.as_deref_mut()?));
+    let difference = broken.or_else(|| reply_differs(case, &verdict.answer, other.as_deref_mut()?));
     Outcome { verdict, difference }
 }
 
@@ -80,7 +80,7 @@ pub fn untouched(room: usize) -> Vec<u8> {
 }
 
 /// Holds number, length and every byte of the output to the Rust's answer.
-fn compare_replies(case: &Case, expected: &Answer, other: &mut dyn OtherSide) -> Option<String> {
+pub fn reply_differs(case: &Case, expected: &Answer, other: &mut dyn OtherSide) -> Option<String> {
     let mut expected_out = untouched(case.room);
     let mut expected_length = 0;
     if let Answer::Bound(image) = expected {

@@ -31,8 +31,7 @@ pub fn record(seed: u64, count: usize) -> Result<Record, String> {
         let verdict = verdict_of(&made.case);
         record.bytes.extend(case_bytes(&made.case, &verdict.answer)?);
         record.tally.add(&made.case, &verdict);
-        if let Some(alone) = made.alone() {
-            let [one, two] = alone.map(|case| verdict_of(&case).answer.number());
+        if let Some([one, two]) = made.alone() {
             record.tally.add_pair(one, two);
         }
         reached.add(&made.case, &verdict);

@@ -37,7 +37,7 @@ fn room_rule(case: &Case) -> impl Fn(Case) -> Case + use<> {
         _ => None,
     };
     move |case| match rule {
-        Some(rule) => Case { room: rule.bytes(&case.statement, &case.catalogue), ..case },
+        Some(rule) => Case { room: rule.bytes(&judge(&case.statement, &case.catalogue, usize::MAX)), ..case },
         None => case,
     }
 }

@@ -11,6 +11,9 @@ pub const NUMBERS: usize = 10;
 /// The ten kinds, and bytes that are no statement.
 pub const KINDS: usize = 11;
 
+/// Of so many cases it is counted which faults met. It is no comparison, and takes as long as one.
+pub const PAIRED: u64 = 100_000;
+
 pub struct Tally {
     cases: usize,
     /// By kind, then by answer.
@@ -94,7 +97,9 @@ impl Tally {
     }
 
     fn pairs_table(&self) -> String {
-        let mut text = "\ntwo faults in one case, by what each alone is answered with (0: it binds)\n    ".to_string();
+        let mut text = format!(
+            "\ntwo faults in one case (of the first {PAIRED}), by what each alone is answered with (0: it binds)\n    "
+        );
         (0..NUMBERS).for_each(|number| text.push_str(&format!("{number:>7}")));
         text.push('\n');
         for (low, row) in self.pairs.iter().enumerate() {

@@ -78,33 +78,47 @@ pub fn tiny_table(number: u64) -> Table {
 
 /// Adds tables and columns until the image has exactly `target` bytes.
 pub fn fill_to(catalogue: &mut Catalogue, target: usize) {
-    let length = |catalogue: &Catalogue| catalogue.encode_unjudged().map_or(usize::MAX, |image| image.len());
+    let mut length = image_bytes(catalogue);
     let mut number = 0;
-    while length(catalogue) + 9_000 < target {
+    while length + 9_000 < target {
         let mut table = tiny_table(number);
         for column in 0..60 {
             table.columns.push(wide_column(column, 100));
         }
+        length += table_bytes(&table);
         catalogue.tables.push(table);
         number += 1;
     }
     let mut last = tiny_table(number);
     last.name = "pad".to_string();
-    catalogue.tables.push(last);
-    // A column takes 18 bytes and its name. The last one takes what is left, between 1 and 118.
+    length += table_bytes(&last);
+    // The last column takes what is left, its name between 1 and 118 bytes.
     loop {
-        let gap = target.saturating_sub(length(catalogue));
-        let Some(table) = catalogue.tables.last_mut() else { return };
-        let column = table.columns.len() as u64;
-        if gap >= 18 + 100 + 18 + 4 {
-            table.columns.push(wide_column(column, 100));
-        } else if gap > 18 + 4 {
-            table.columns.push(wide_column(column, gap - 18));
-            return;
+        let gap = target.saturating_sub(length);
+        let column = last.columns.len() as u64;
+        if gap >= COLUMN_BYTES + 100 + COLUMN_BYTES + 4 {
+            last.columns.push(wide_column(column, 100));
+            length += COLUMN_BYTES + 100;
+        } else if gap > COLUMN_BYTES + 4 {
+            last.columns.push(wide_column(column, gap - COLUMN_BYTES));
+            break;
         } else {
-            return;
+            break;
         }
     }
+    catalogue.tables.push(last);
+}
+
+/// What a column takes beside its name.
+const COLUMN_BYTES: usize = 18;
+
+fn image_bytes(catalogue: &Catalogue) -> usize {
+    catalogue.encode_unjudged().map_or(usize::MAX, |image| image.len())
+}
+
+/// What a table adds to the image of a catalogue.
+fn table_bytes(table: &Table) -> usize {
+    image_bytes(&Catalogue { tables: vec![table.clone()] }) - image_bytes(&Catalogue::default())
 }
 
 fn wide_column(number: u64, name_bytes: usize) -> Column {

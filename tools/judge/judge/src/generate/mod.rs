@@ -41,13 +41,13 @@ pub struct Planted {
 }
 
 impl Planted {
-    /// For a case with exactly two faults: the case with the first only, and the case with the second only.
-    pub fn alone(&self) -> Option<[Case; 2]> {
+    /// For a case with exactly two faults: what the case with the first only is answered with, and with the second only.
+    pub fn alone(&self) -> Option<[u8; 2]> {
         let (base, [first, second]) = (self.base.as_ref()?, self.plan.as_slice()) else { return None };
         Some([first, second].map(|(place, seed)| {
             let mut draft = base.clone();
             (FAULTS[*place].plant)(&mut Rng::new(*seed), &mut draft);
-            draft.finish()
+            draft.answered()
         }))
     }
 }
@@ -154,18 +154,30 @@ impl Draft {
 
     fn finish(&self) -> Case {
         let (statement, catalogue) = self.images();
-        let room = self.room.bytes(&statement, &catalogue);
+        let room = self.room.bytes(&judge(&statement, &catalogue, usize::MAX));
         Case { statement, catalogue, room }
+    }
+
+    /// The number that the case is answered with.
+    fn answered(&self) -> u8 {
+        let (statement, catalogue) = self.images();
+        let answer = judge(&statement, &catalogue, usize::MAX);
+        if needed(&answer) > self.room.bytes(&answer) { 9 } else { answer.number() }
+    }
+}
+
+/// The room that an answer needs.
+fn needed(answer: &Answer) -> usize {
+    match answer {
+        Answer::Bound(image) => image.len(),
+        Answer::Refused(_) => 0,
     }
 }
 
 impl Room {
-    /// The room in bytes, by what the Rust's answer needs.
-    pub fn bytes(self, statement: &[u8], catalogue: &[u8]) -> usize {
-        let needed = match judge(statement, catalogue, usize::MAX) {
-            Answer::Bound(image) => image.len(),
-            Answer::Refused(_) => 0,
-        };
+    /// The room in bytes, by the answer that is given where there is enough.
+    pub fn bytes(self, answer: &Answer) -> usize {
+        let needed = needed(answer);
         match self {
             Room::Ample => AMPLE_ROOM + needed,
             Room::Exact => needed,

@@ -24,7 +24,18 @@ pub fn fresh(rng: &mut Rng, taken: &[&str]) -> String {
             return name;
         }
     }
-    (0..).map(|number| format!("n{number}")).find(|name| !taken.contains(&name.as_str())).unwrap_or_default()
+    format!("n{}", first_free(taken))
+}
+
+/// The first number behind an n that no name has.
+fn first_free(taken: &[&str]) -> usize {
+    let mut free = vec![true; taken.len() + 1];
+    for number in taken.iter().filter_map(|name| name.strip_prefix('n')?.parse::<usize>().ok()) {
+        if let Some(free) = free.get_mut(number) {
+            *free = false;
+        }
+    }
+    free.into_iter().position(|free| free).expect("there are more numbers than names")
 }
 
 /// A way to write a catalogue's name: quoted as it is, or unquoted in any case where that folds to it.

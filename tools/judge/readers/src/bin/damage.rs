@@ -5,6 +5,9 @@ use std::process::ExitCode;
 use images::show::hex;
 use readers::compare::{Difference, compare, small_image};
 use readers::mistakes::{MISTAKES, Mistake, named};
+use readers::operations::binding::Binding;
+use readers::operations::running::Running;
+use readers::operations::{self, Operation};
 use readers::sides::Asked;
 
 const HELP: &str = "\
@@ -12,26 +15,32 @@ damage --seed S --count N    N images of seed S, judged by the Rust decoder and 
                              makes, copies with each byte changed, moved, removed or doubled, cut at each length, and
                              spliced. Prints counts, the first difference, and last 'N compared, D differences'. Exit
                              status 0 only where D is 0
-       --mistake NAME        the Rust side has a mistake planted; NAME 'list' lists them
+       --at bind|run         the same at sirklemet_bind or sirklemet_run, beside what the Rust answers: the number, the
+                             length and every byte of the output, with more room than is needed, with exactly as much,
+                             with one byte less and with none. N counts the damaged cases
+       --mistake NAME        the Rust side has a mistake planted; NAME 'list' lists them. With --at the other side is the
+                             Rust with a mistake planted
        --seeds FOLDER        compares nothing, and writes N small images to files of the folder
 ";
 
 struct Command {
     seed: u64,
     count: u64,
+    at: Option<String>,
     mistake: Option<String>,
     seeds: Option<String>,
     help: bool,
 }
 
 fn command(mut arguments: impl Iterator<Item = String>) -> Result<Command, String> {
-    let mut command = Command { seed: 1, count: 100_000, mistake: None, seeds: None, help: false };
+    let mut command = Command { seed: 1, count: 100_000, at: None, mistake: None, seeds: None, help: false };
     while let Some(argument) = arguments.next() {
         let mut word = || arguments.next().ok_or(format!("{argument} needs a word behind it"));
         let number = |word: String| word.parse().map_err(|_| format!("{word} is no number"));
         match argument.as_str() {
             "--seed" => command.seed = number(word()?)?,
             "--count" => command.count = number(word()?)?,
+            "--at" => command.at = Some(word()?),
             "--mistake" => command.mistake = Some(word()?),
             "--seeds" => command.seeds = Some(word()?),
             "-h" | "--help" | "help" => command.help = true,
@@ -61,17 +70,72 @@ fn run(command: &Command) -> Result<bool, String> {
     if let Some(folder) = &command.seeds {
         return write_seeds(command, folder).map(|()| true);
     }
+    match command.at.as_deref() {
+        None => at_the_readers(command),
+        Some("bind") => at_binding(command),
+        Some("run") => at_running(command),
+        Some(other) => Err(format!("{other} is neither bind nor run")),
+    }
+}
+
+fn at_the_readers(command: &Command) -> Result<bool, String> {
     match command.mistake.as_deref() {
         Some("list") => {
             MISTAKES.iter().for_each(|mistake| println!("{}", mistake.name));
             Ok(true)
         }
         Some(name) => {
-            let mistake = named(name).ok_or(format!("{name} is no planted mistake; --mistake list lists them"))?;
+            let mistake = named(name).ok_or_else(|| no_mistake(name))?;
             Ok(compared(command, Some(mistake)))
         }
         None => Ok(compared(command, None)),
     }
+}
+
+fn no_mistake(name: &str) -> String {
+    format!("{name} is no planted mistake; --mistake list lists them")
+}
+
+fn at_binding(command: &Command) -> Result<bool, String> {
+    let operation = match command.mistake.as_deref() {
+        Some("list") => return listed(&Binding::mistakes()),
+        Some(name) => Binding::mistaken(name).ok_or_else(|| no_mistake(name))?,
+        None => Binding::default(),
+    };
+    Ok(operated(command, "sirklemet_bind", operation))
+}
+
+fn at_running(command: &Command) -> Result<bool, String> {
+    let operation = match command.mistake.as_deref() {
+        Some("list") => return listed(&Running::mistakes()),
+        Some(name) => Running::mistaken(name).ok_or_else(|| no_mistake(name))?,
+        None => Running::default(),
+    };
+    Ok(operated(command, "sirklemet_run", operation))
+}
+
+fn listed(names: &[&str]) -> Result<bool, String> {
+    println!("{}", names.join("\n"));
+    Ok(true)
+}
+
+fn operated(command: &Command, name: &str, mut operation: impl Operation) -> bool {
+    let other = match &command.mistake {
+        Some(mistake) => format!("the Rust with the mistake {mistake} planted in place of {name}"),
+        None => name.to_string(),
+    };
+    println!("seed {}; the Rust, and {other}\n", command.seed);
+    let comparison = operations::compare::compare(&mut operation, command.seed, command.count);
+    print!("{}", comparison.tally.report());
+    if let Some(first) = &comparison.first {
+        let operations::compare::Difference { case, way, words } = first;
+        let [statement, catalogue, row] = [&case.statement, &case.catalogue, &case.row].map(|bytes| hex(bytes));
+        println!("\nthe first difference, {}, in a room of {} bytes: {words}", way.name(), case.room);
+        println!("statement in hex: {statement}\ncatalogue in hex: {catalogue}\nrow in hex: {row}");
+    }
+    let (cases, calls) = (comparison.tally.all(), comparison.tally.calls());
+    println!("{calls} calls\n\n{cases} compared, {} differences", comparison.differences);
+    comparison.differences == 0
 }
 
 fn write_seeds(command: &Command, folder: &str) -> Result<(), String> {
