@@ -195,15 +195,15 @@ comes-signed (some p) w h = comes-literal (integerLiteral (p .0) (p .1))
 
 -- ---- an expression that has an image, node by node
 
-abbrev lb : Labels (Label Leaf Unary Binary)
-lb = labels leafCodes unaryCodes binaryCodes refl
+abbrev pub nodeLabels : Labels (Label Leaf Unary Binary)
+nodeLabels = labels leafCodes unaryCodes binaryCodes refl
 
 -- every label has an image, and all contents together have fewer than 65,536 bytes
-record Short (e : Expr) : Type 0 where
-  held : N.Holds (lb .form .Ok) e
-  content : N.contentSize 2 lb e < 65536
+pub record Short (e : Expr) : Type 0 where
+  pub held : N.Holds (nodeLabels .form .Ok) e
+  pub content : N.contentSize 2 nodeLabels e < 65536
 
-short : (e : Expr) → expression .Ok e → Short e
+pub short : (e : Expr) → expression .Ok e → Short e
 unfolding expression
 short e h = record { held = h .2; content = h .1 }
 
