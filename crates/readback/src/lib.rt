@@ -1,0 +1,1 @@
+// What is written reads back. `specs/` has the theorems; there is no code here.
