@@ -1,5 +1,5 @@
-// Runs one UPDATE on one row: the files `catalogue.image` and `row.image`, and a statement image on standard input. One line out: `row N`, and the new
-// row's image of N bytes is in the file `new-row.image`; or `refused R`, and no file is touched; or `not written`.
+// Runs one UPDATE on one row: the files `catalogue` and `row`, and a statement image on standard input. One line out: `row N`, and the new
+// row's image of N bytes is in the file `new-row`; or `refused R`, and no file is touched; or `not written`.
 use libc::STDIN_FILENO;
 use libc::STDOUT_FILENO;
 use runner::run;
@@ -46,18 +46,18 @@ fn put(fd: i32, new: &[u8]) -> bool {
     whole
 }
 
-// Whether all of `new` is in the file `new-row.image`. A file with a part of it is taken away.
+// Whether all of `new` is in the file `new-row`. A file with a part of it is taken away.
 fn write_new_row(new: &[u8]) -> bool {
-    let fd = os::open_overwrite(b"new-row.image");
+    let fd = os::open_overwrite(b"new-row");
     if fd < 0 {
-        os::fail(b"new-row.image");
+        os::fail(b"new-row");
         return false;
     }
     if put(fd, new) {
         return true;
     }
-    os::fail(b"new-row.image");
-    os::unlink(b"new-row.image");
+    os::fail(b"new-row");
+    os::unlink(b"new-row");
     false
 }
 
@@ -108,8 +108,8 @@ fn main() {
     let mut tables = [0u8; 65537];
     let mut old = [0u8; 65537];
     let mut space = [0u8; 65537];
-    let length = read_image(b"catalogue.image", &mut tables);
-    let width = read_image(b"row.image", &mut old);
+    let length = read_image(b"catalogue", &mut tables);
+    let width = read_image(b"row", &mut old);
     let size = io::read_full(STDIN_FILENO, &mut space);
     run_row(&space[..size], &tables[..length], &old[..width]);
 }
