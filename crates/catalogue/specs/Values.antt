@@ -14,14 +14,14 @@ use Rattle.codec.specs.Ways.{next}
 use Rattle.codec.specs.Layout.{text, alone, bools, listOf}
 use Rattle.bundle.specs.Bundle.{partsOf, IsRecord}
 use Rattle.bundle.specs.Laws.{via-record-value, via-record-there}
-use Rattle.bundle.specs.Fields.{Spot, codeSpot, bothSpot, bothLook, field-value}
+use Rattle.bundle.specs.Fields.{Spot, codeSpot, bothSpot, bothLook, field-value, checked-value}
 use Rattle.value.specs.Parts.{columnId, columnSchema}
 use Rattle.rules.specs.declared.TableId.{TableId}
 use Rattle.rules.specs.declared.ColumnId.{ColumnId}
 use Rattle.rules.specs.declared.DataType.{DataType}
 use Rattle.rules.specs.declared.DataType.the-variants as data-type
-use Rattle.rules.specs.Tables.{ColumnSchema, TableSchema}
-use Rattle.catalogue.specs.Layout.{TableNumbers, table}
+use Rattle.rules.specs.Tables.{ColumnSchema, TableSchema, Catalogue, sound}
+use Rattle.catalogue.specs.Layout.{TableNumbers, table, catalogue}
 use Rattle.catalogue.specs.Shapes.{dataTypes, columnIdSpot, columnNumbersSpot, columnParts, tableNumbersSpot, tableParts}
 use Rattle.bundle.specs.Held.{Holds, Is, is-held, held}
 
@@ -168,3 +168,13 @@ pub record ColumnShape (s : List ℕ) : Type 0 where
 
 pub column-shape : {s : List ℕ} → Is (columnSchema 2) s → ColumnShape s
 column-shape {s} i = held i (λ v e. let h = column-held e in record { shape = h .shape; wide = h .wide })
+
+-- ---- a catalogue
+
+-- a catalogue is a list of tables
+pub catalogue-tables : (s : List ℕ) {v : Catalogue} → Holds catalogue s v → Holds (listOf 2 table) s v
+unfolding catalogue
+catalogue-tables s h = checked-value (listOf 2 table) sound s h .0
+
+pub catalogue-list : {s : List ℕ} → Is catalogue s → Is (listOf 2 table) s
+catalogue-list {s} i = held i (λ v h. is-held {f = listOf 2 table} (catalogue-tables s h))

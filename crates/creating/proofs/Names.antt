@@ -10,7 +10,7 @@ use lib.Dec.{eqb}
 use lib.ListN.{length, take, drop, getD, length-append, drop-of-length-le}
 use borrow.Author.Tests.{eqb-true, eq-eqb}
 use Rattle.bundle.specs.Decides.{and-of}
-use Rattle.catalogue.specs.Finds.{find-hit, find-miss}
+use Rattle.catalogue.specs.Entries.{find-hit, find-miss}
 use Rattle.repeats.specs.declared.Of.the-variants as of
 use Rattle.repeats.specs.Entries.{entry}
 use Rattle.repeats.specs.Repeats.{alike, firstRepeated, isAt, any-last, take-next, drop-next, drop-map, Reached, reached-none, reached-turn, reached-on}

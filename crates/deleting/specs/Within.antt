@@ -7,7 +7,7 @@ use Prim.Native.Nat.{ℕ}
 use Rattle.codec.specs.Layout.{listOf}
 use Rattle.bundle.specs.Held.{Is, Holds, held, held-once}
 use Rattle.catalogue.specs.Layout.{table, catalogue}
-use Rattle.catalogue.specs.Within.{catalogue-tables}
+use Rattle.catalogue.specs.Values.{catalogue-tables}
 use Rattle.delete.specs.Held.{deleteFromNo}
 use Rattle.expression.specs.Names.{Within}
 use Rattle.filtering.specs.There.{ShortCondition, conditionNames, condition-within}

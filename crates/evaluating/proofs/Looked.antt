@@ -8,11 +8,11 @@ use native.Mathlib.Omega.{arith}
 use lib.IntN.{ℤ}
 use lib.ListN.{length}
 use Rattle.bundle.specs.Held.{Is, Holds, held}
-use Rattle.catalogue.specs.declared.Column.{Column}
-use Rattle.catalogue.specs.declared.Named.{Named}
-use Rattle.catalogue.specs.declared.Named.the-variants as named
+use Rattle.lookup.specs.declared.Column.{Column}
+use Rattle.lookup.specs.declared.Named.{Named}
+use Rattle.lookup.specs.declared.Named.the-variants as named
 use Rattle.catalogue.specs.Layout.{table}
-use Rattle.catalogue.specs.Finds.{ColumnIs, FindsColumn}
+use Rattle.lookup.specs.Finds.{ColumnIs, FindsColumn}
 use Rattle.numbers.specs.declared.Literal.the-variants as number
 use Rattle.numbers.specs.Literal as literal
 use Rattle.row.specs.Obeyed.{obeyed-at}

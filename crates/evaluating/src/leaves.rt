@@ -1,8 +1,8 @@
 // The leaves of an expression, and a sign directly over a number.
-use catalogue::Named;
-use catalogue::find_column;
 use expression::kind;
 use expression::text;
+use lookup::Named;
+use lookup::find_column;
 use numbers::Literal;
 use numbers::integer_literal;
 use row::value_at;

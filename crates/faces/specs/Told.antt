@@ -14,7 +14,7 @@ use Rattle.bundle.specs.Laws.{Each, list-values}
 use Rattle.rules.specs.Tables.{TableSchema, Catalogue}
 use Rattle.rules.specs.Rows.{Row}
 use Rattle.catalogue.specs.Layout.{table, catalogue}
-use Rattle.catalogue.specs.Within.{catalogue-tables}
+use Rattle.catalogue.specs.Values.{catalogue-tables}
 use Rattle.row.specs.Layout.{row}
 use Rattle.row.specs.Obeyed.{obeyed}
 

@@ -64,7 +64,7 @@ pub extern "C" fn sirklemet_read_statement(bytes: &[u8]) -> u8
 pub extern "C" fn sirklemet_is_catalogue(bytes: &[u8]) -> bool
     ensures { λ r. ⌜ r ≡ isThere (catalogue .read (now (bytes .entry))) ⌝ }
 {
-    catalogue::is_catalogue(bytes)
+    soundness::is_catalogue(bytes)
 }
 
 // 6: no catalogue. 7: one past a limit. 0: one that can be bound against.
@@ -88,7 +88,7 @@ pub extern "C" fn sirklemet_is_row(bytes: &[u8]) -> bool
 pub extern "C" fn sirklemet_obeys(bytes: &[u8], tables: &[u8], number: usize) -> bool
     ensures { λ r. ⌜ r ≡ toldObeys (now (bytes .entry)) (now (tables .entry)) number ⌝ }
 {
-    if !catalogue::is_catalogue(tables) {
+    if !soundness::is_catalogue(tables) {
         return false;
     }
     if bundle::parts(tables, 2) <= number {

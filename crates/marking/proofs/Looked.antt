@@ -21,11 +21,11 @@ use Rattle.rules.specs.Statements.{Name}
 use Rattle.rules.specs.Tables.{TableSchema}
 use Rattle.numbers.specs.declared.Literal.the-variants as number
 use Rattle.numbers.specs.Literal as literal
-use Rattle.catalogue.specs.declared.Column.{Column}
-use Rattle.catalogue.specs.declared.Named.{Named}
-use Rattle.catalogue.specs.declared.Named.the-variants as named
+use Rattle.lookup.specs.declared.Column.{Column}
+use Rattle.lookup.specs.declared.Named.{Named}
+use Rattle.lookup.specs.declared.Named.the-variants as named
 use Rattle.catalogue.specs.Layout.{table}
-use Rattle.catalogue.specs.Finds.{Lies, ColumnIs, FindsColumn}
+use Rattle.lookup.specs.Finds.{Lies, ColumnIs, FindsColumn}
 use Rattle.bundle.specs.Held.{Is, Holds, held}
 use Rattle.value.specs.Parts.{value}
 use Rattle.bound.specs.Columns.{boundColumnRef}

@@ -10,7 +10,7 @@ use lib.ListN.{length}
 use Rattle.codec.specs.Ways.{next}
 use Rattle.bundle.specs.Decides.{and-of}
 use Rattle.bundle.specs.Held.{Is, Holds, held, held-once}
-use Rattle.catalogue.specs.declared.Column.{Column}
+use Rattle.lookup.specs.declared.Column.{Column}
 use Rattle.catalogue.specs.Layout.{table}
 use Rattle.evaluating.specs.Works.{ObeysTable, Says, obeys-row}
 use Rattle.row.specs.Layout.{row}

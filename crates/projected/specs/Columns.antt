@@ -16,10 +16,11 @@ use Rattle.bound.specs.Columns.{boundColumnRef}
 use Rattle.bound.specs.Made.{columnRef}
 use Rattle.bound.specs.Spelt.{column-ref-length}
 use Rattle.bound.specs.Written.{spelt}
-use Rattle.catalogue.specs.declared.Column.{Column}
-use Rattle.catalogue.specs.declared.Named.{Named}
-use Rattle.catalogue.specs.declared.Named.the-variants as answer
-use Rattle.catalogue.specs.Finds.{ColumnBound, ordinalOf, find-hit, find-miss}
+use Rattle.lookup.specs.declared.Column.{Column}
+use Rattle.lookup.specs.declared.Named.{Named}
+use Rattle.lookup.specs.declared.Named.the-variants as answer
+use Rattle.lookup.specs.Finds.{ColumnBound, ordinalOf}
+use Rattle.catalogue.specs.Entries.{find-hit, find-miss}
 use Rattle.catalogue.specs.Layout.{table}
 use Rattle.resolving.specs.Short.{ShortText}
 use Rattle.rules.specs.declared.ColumnId.{ColumnId}

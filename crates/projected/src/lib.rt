@@ -1,13 +1,13 @@
 // The columns that a SELECT's items name, written as a list: how many, the length of each, the columns. An item may name many columns (`*`),
 // so they are counted first, and written at two cursors.
 use bound::columns::put_column_ref;
-use catalogue::Named;
 use catalogue::column_id;
 use catalogue::column_name;
 use catalogue::column_nullable;
 use catalogue::column_type;
 use catalogue::columns;
 use catalogue::table_id;
+use lookup::Named;
 use rules::Ordinal;
 use rules::TableId;
 use select::column_of;

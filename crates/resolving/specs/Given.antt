@@ -14,7 +14,7 @@ use Rattle.bundle.specs.Decides.{and-of}
 use Rattle.bundle.specs.Fields.{checked-value}
 use Rattle.bundle.specs.Held.{Holds}
 use Rattle.catalogue.specs.Layout.{table, catalogue}
-use Rattle.catalogue.specs.Sound.{sameTableName, sameTableId}
+use Rattle.soundness.specs.Sound.{sameTableName, sameTableId}
 use Rattle.expression.specs.Names.{Within}
 use Rattle.rules.specs.declared.Class.{Class}
 use Rattle.rules.specs.declared.Class.the-variants.{SchemaMismatch, UnsupportedSql}

@@ -11,7 +11,7 @@ use native.Mathlib.Omega.{arith}
 use lib.ListN.{length}
 use Rattle.codec.specs.Format.{Format}
 use Rattle.catalogue.specs.Layout.{table}
-use Rattle.catalogue.specs.Finds.{LiesAs}
+use Rattle.lookup.specs.Finds.{LiesAs}
 use Rattle.rules.specs.declared.Class.{Class}
 use Rattle.rules.specs.declared.Refusal.{Refusal}
 use Rattle.rules.specs.Answers.{Answer, given, refused, refuseIf, found, _>>=_, _>>_, Verdict, fine, flaw, judged}

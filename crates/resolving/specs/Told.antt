@@ -6,7 +6,7 @@ use Prim.Native.Nat.{ℕ}
 use lib.ListN.{length}
 use Rattle.codec.specs.Format.{Format}
 use Rattle.catalogue.specs.Layout.{table}
-use Rattle.catalogue.specs.Finds.{LiesAs}
+use Rattle.lookup.specs.Finds.{LiesAs}
 use Rattle.rules.specs.Answers.{Answer, given, refused}
 use Rattle.rules.specs.Tables.{TableSchema}
 use Rattle.rules.specs.Theorems.Answered.{mapped}

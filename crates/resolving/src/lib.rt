@@ -1,6 +1,6 @@
 // What the analysis of the statements shares: what it answers, and the table that a statement names.
-use catalogue::Found;
-use catalogue::find_table;
+use lookup::Found;
+use lookup::find_table;
 use rules::Class;
 use rules::Refusal;
 use statement::names::name_is_quoted;
@@ -16,7 +16,7 @@ ghost use mathlib.Core.Path.{_≡_};
 ghost use Rattle.codec.specs.Layout.{listOf, text};
 ghost use Rattle.bundle.specs.Held.{Is, Holds};
 ghost use Rattle.catalogue.specs.Layout.{table};
-ghost use Rattle.catalogue.specs.Finds.{FindsTable};
+ghost use Rattle.lookup.specs.Finds.{FindsTable};
 ghost use Rattle.statement.specs.Layout.{name, objectName, tableWithJoins};
 ghost use Rattle.rules.specs.Analyze.{resolveDirectTable};
 ghost use Rattle.rules.specs.Names.{canonical};

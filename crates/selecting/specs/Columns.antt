@@ -8,10 +8,10 @@ use native.Mathlib.Omega.{arith}
 use lib.ListN.{length, drop, length-drop}
 use lib.Seq.{length-take-le}
 use Rattle.bundle.specs.Held.{Is, Holds, held}
-use Rattle.catalogue.specs.declared.Column.{Column}
-use Rattle.catalogue.specs.declared.Named.{Named}
-use Rattle.catalogue.specs.declared.Named.the-variants as answer
-use Rattle.catalogue.specs.Finds.{Lies, ColumnBound, ColumnIs}
+use Rattle.lookup.specs.declared.Column.{Column}
+use Rattle.lookup.specs.declared.Named.{Named}
+use Rattle.lookup.specs.declared.Named.the-variants as answer
+use Rattle.lookup.specs.Finds.{Lies, ColumnBound, ColumnIs}
 use Rattle.catalogue.specs.Layout.{table}
 use Rattle.marking.specs.Small.{name-length}
 use Rattle.resolving.specs.Short.{ShortText}

@@ -1,11 +1,11 @@
 // SELECT over a catalogue: its table, its items in their order, then its condition.
 use bound::columns::column_ref_len;
 use bound::fields::count_len;
-use catalogue::Named;
 use catalogue::column_name;
 use catalogue::columns;
-use catalogue::find_column;
 use filtering::filter_size;
+use lookup::Named;
+use lookup::find_column;
 use referring::table_size;
 use resolving::Measured;
 use resolving::Resolved;

@@ -22,10 +22,10 @@ pub fn read_statement(s: &[u8]) -> u8
 pub fn read_catalogue(c: &[u8]) -> u8
     ensures { λ r. ⌜ r ≡ toldOfCatalogue (now (c .entry)) ⌝ }
 {
-    if !catalogue::is_catalogue(c) {
+    if !soundness::is_catalogue(c) {
         return 6;
     }
-    if !catalogue::catalogue_within(c) {
+    if !schemasize::catalogue_within(c) {
         return 7;
     }
     0

@@ -10,11 +10,12 @@ use lib.ListN.{length, take, drop}
 use Rattle.wire.specs.Sets.{Wrote}
 use Rattle.codec.specs.Layout.{listOf}
 use Rattle.bundle.specs.Held.{Holds, held}
-use Rattle.catalogue.specs.declared.Column.{Column}
-use Rattle.catalogue.specs.declared.Named.{Named}
-use Rattle.catalogue.specs.declared.Named.the-variants as named
+use Rattle.lookup.specs.declared.Column.{Column}
+use Rattle.lookup.specs.declared.Named.{Named}
+use Rattle.lookup.specs.declared.Named.the-variants as named
 use Rattle.catalogue.specs.Layout.{table}
-use Rattle.catalogue.specs.Finds.{ColumnBound, ColumnIs, FindsColumn, find-hit, find-miss}
+use Rattle.lookup.specs.Finds.{ColumnBound, ColumnIs, FindsColumn}
+use Rattle.catalogue.specs.Entries.{find-hit, find-miss}
 use Rattle.statement.specs.Layout.{name}
 use Rattle.rules.specs.declared.Class.the-variants.{SchemaMismatch}
 use Rattle.rules.specs.declared.TableId.{TableId}

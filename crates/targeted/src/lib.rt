@@ -1,6 +1,6 @@
 // The target columns of an INSERT, written: a list of references to columns.
-use catalogue::Named;
 use catalogue::table_id;
+use lookup::Named;
 use targets::find_target;
 use tupled::put_length;
 use writing::columns::put_found;

@@ -18,10 +18,11 @@ use Rattle.bundle.specs.Decides.{and-of}
 use Rattle.bundle.specs.Held.{Is, Holds, is-held, Along, turn, part-is, held, held-once, list-count, Left, left, left-on, left-stop, left-end}
 use Rattle.value.specs.Parts.{columnSchema}
 use Rattle.catalogue.specs.Layout.{table}
-use Rattle.catalogue.specs.declared.Column.{Column}
-use Rattle.catalogue.specs.declared.Named.{Named}
-use Rattle.catalogue.specs.declared.Named.the-variants as named
-use Rattle.catalogue.specs.Finds.{ColumnIs, FindsColumn, find-hit, find-miss, any-hit, any-miss}
+use Rattle.lookup.specs.declared.Column.{Column}
+use Rattle.lookup.specs.declared.Named.{Named}
+use Rattle.lookup.specs.declared.Named.the-variants as named
+use Rattle.lookup.specs.Finds.{ColumnIs, FindsColumn}
+use Rattle.catalogue.specs.Entries.{find-hit, find-miss, any-hit, any-miss}
 use Rattle.statement.specs.Layout.{name}
 use Rattle.rules.specs.declared.Class.the-variants.{SchemaMismatch, ConstraintViolation}
 use Rattle.rules.specs.declared.Refusal.{Refusal}

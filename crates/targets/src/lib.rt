@@ -1,11 +1,11 @@
 // The target columns of an INSERT, and the columns that it must not leave out.
 use bound::columns::column_ref_len;
-use catalogue::Named;
 use catalogue::column_id;
 use catalogue::column_name;
 use catalogue::column_nullable;
-use catalogue::find_column;
-use catalogue::in_key;
+use lookup::Named;
+use lookup::find_column;
+use lookup::in_key;
 use names::is_called;
 use repeats::Of;
 use repeats::first_repeated;
@@ -25,7 +25,7 @@ ghost use Rattle.codec.specs.Layout.{listOf};
 ghost use Rattle.bundle.specs.Held.{Is, Holds};
 ghost use Rattle.value.specs.Parts.{dataTypeNo, columnSchema};
 ghost use Rattle.catalogue.specs.Layout.{table};
-ghost use Rattle.catalogue.specs.Finds.{FindsColumn};
+ghost use Rattle.lookup.specs.Finds.{FindsColumn};
 ghost use Rattle.statement.specs.Layout.{name};
 ghost use Rattle.rules.specs.Lists.{same, any};
 ghost use Rattle.rules.specs.Names.{canonical};

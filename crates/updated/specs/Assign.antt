@@ -18,8 +18,8 @@ use Rattle.bound.specs.Sizes.{assignment-length}
 use Rattle.bound.specs.Spelt.{column-ref-length}
 use Rattle.bound.specs.Statements.{assignment-bytes}
 use Rattle.bound.specs.Written.{spelt}
-use Rattle.catalogue.specs.declared.Column.{Column}
-use Rattle.catalogue.specs.Finds.{ColumnBound}
+use Rattle.lookup.specs.declared.Column.{Column}
+use Rattle.lookup.specs.Finds.{ColumnBound}
 use Rattle.catalogue.specs.Layout.{table}
 use Rattle.expression.specs.Expression.{expression}
 use Rattle.statement.specs.Layout.{assignment}

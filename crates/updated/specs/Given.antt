@@ -7,7 +7,7 @@ use mathlib.Core.Option.{Option, some, Option·some-injective, Option·none-ne-s
 use Prim.Native.Nat.{ℕ, zero, suc, _+_}
 use native.Mathlib.Omega.{arith}
 use lib.ListN.{length, drop, length-drop}
-use Rattle.catalogue.specs.Finds.{find-hit, find-miss}
+use Rattle.catalogue.specs.Entries.{find-hit, find-miss}
 use Rattle.resolving.specs.Steps.{step-on}
 use Rattle.rules.specs.declared.Class.the-variants.{SchemaMismatch, ConstraintViolation, UnsupportedSql, InvalidArgument}
 use Rattle.rules.specs.declared.ColumnId.{ColumnId}

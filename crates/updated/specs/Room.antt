@@ -8,8 +8,8 @@ use Rattle.codec.specs.Layout.{listOf}
 use Rattle.bundle.specs.Held.{Holds}
 use Rattle.bound.specs.Layout as layout
 use Rattle.bound.specs.Layout.{boundStatement}
-use Rattle.catalogue.specs.declared.Column.{Column}
-use Rattle.catalogue.specs.Finds.{ColumnBound}
+use Rattle.lookup.specs.declared.Column.{Column}
+use Rattle.lookup.specs.Finds.{ColumnBound}
 use Rattle.catalogue.specs.Layout.{table}
 use Rattle.expression.specs.Expression as image
 use Rattle.statement.specs.Layout.{assignment}

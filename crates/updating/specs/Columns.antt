@@ -8,7 +8,7 @@ use Prim.Native.Nat.{ℕ, suc}
 use lib.Dec.{eqb}
 use borrow.Author.Tests.{eqb-true, eq-eqb, not-true}
 use Rattle.bundle.specs.Decides.{and-of, all-of}
-use Rattle.catalogue.specs.Sound.{hasId, sameColumnName, sameColumnId, sound-table-decided}
+use Rattle.soundness.specs.Sound.{hasId, sameColumnName, sameColumnId, sound-table-decided}
 use Rattle.resolving.specs.Given.{find-passes, same-is}
 use Rattle.rules.specs.Lists.{Text, same, isEmpty, any, all, find, distinct}
 use Rattle.rules.specs.Bound.{BoundColumnRef}

@@ -8,8 +8,8 @@ use native.Mathlib.Omega.{arith}
 use lib.ListN.{length, drop, length-drop}
 use lib.Seq.{length-take-le}
 use Rattle.bundle.specs.Held.{Is, Holds, held}
-use Rattle.catalogue.specs.declared.Column.{Column}
-use Rattle.catalogue.specs.Finds.{ColumnBound}
+use Rattle.lookup.specs.declared.Column.{Column}
+use Rattle.lookup.specs.Finds.{ColumnBound}
 use Rattle.statement.specs.Layout.{objectName, assignmentTarget}
 use Rattle.update.specs.Held.{targetNo}
 use Rattle.repeats.specs.Entries.{targetIn, compared}

@@ -1,11 +1,11 @@
 // UPDATE over a catalogue: its assignments in their order, then its condition.
 use bound::columns::column_ref_len;
 use bound::fields::count_len;
-use catalogue::Column;
-use catalogue::Named;
-use catalogue::find_column;
-use catalogue::in_key;
 use filtering::filter_size;
+use lookup::Column;
+use lookup::Named;
+use lookup::find_column;
+use lookup::in_key;
 use marking::Sized;
 use marking::expression_size;
 use referring::table_size;
@@ -42,7 +42,7 @@ ghost use Rattle.bundle.specs.Held.{Is, Holds};
 ghost use Rattle.bound.specs.Expression.{boundExpression};
 ghost use Rattle.bound.specs.Layout as layout;
 ghost use Rattle.bound.specs.Layout.{boundStatement};
-ghost use Rattle.catalogue.specs.Finds.{ColumnBound};
+ghost use Rattle.lookup.specs.Finds.{ColumnBound};
 ghost use Rattle.catalogue.specs.Layout.{table, catalogue};
 ghost use Rattle.expression.specs.Expression.{expression};
 ghost use Rattle.statement.specs.Layout.{assignmentTarget, assignment, updating};

@@ -28,11 +28,12 @@ use Rattle.rules.specs.Theorems.Answered.{never-fine, never-some}
 use Rattle.names.specs.Compared.{named}
 use Rattle.numbers.specs.declared.Literal.the-variants as number
 use Rattle.numbers.specs.Literal as literal
-use Rattle.catalogue.specs.declared.Column.{Column}
-use Rattle.catalogue.specs.declared.Named.{Named}
-use Rattle.catalogue.specs.declared.Named.the-variants as answer
+use Rattle.lookup.specs.declared.Column.{Column}
+use Rattle.lookup.specs.declared.Named.{Named}
+use Rattle.lookup.specs.declared.Named.the-variants as answer
 use Rattle.catalogue.specs.Layout.{table}
-use Rattle.catalogue.specs.Finds.{ColumnBound, ColumnIs, FindsColumn, find-hit, find-miss}
+use Rattle.lookup.specs.Finds.{ColumnBound, ColumnIs, FindsColumn}
+use Rattle.catalogue.specs.Entries.{find-hit, find-miss}
 use Rattle.expression.specs.Expression.{nameOf}
 use Rattle.expression.specs.Place.{leafOf}
 use Rattle.bundle.specs.Held.{Holds}

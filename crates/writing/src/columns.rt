@@ -1,6 +1,6 @@
 // Columns of a table that were looked up.
 use bound::columns::put_column_ref;
-use catalogue::Column;
+use lookup::Column;
 use rules::TableId;
 ghost use Prim.Native.Nat.{_+_, _≤_};
 ghost use lib.ListN.{length};

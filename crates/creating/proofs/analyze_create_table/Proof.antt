@@ -5,7 +5,7 @@ use denote.Ref.{now}
 use native.Mathlib.Omega.{arith}
 use Rattle.bound.specs.Layout.{boundStatement}
 use Rattle.bundle.specs.Held.{held, is-held}
-use Rattle.catalogue.specs.Within.{catalogue-tables, catalogue-list}
+use Rattle.catalogue.specs.Values.{catalogue-tables, catalogue-list}
 use Rattle.codec.specs.Layout.{text}
 use Rattle.resolving.specs.Short.{create-short}
 use Rattle.resolving.specs.Steps.{sized-refused, sized-as, sized-is, sized-off}

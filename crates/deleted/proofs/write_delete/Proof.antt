@@ -2,7 +2,7 @@
 -- Assumes nothing.
 use Rattle.bundle.specs.Held.{is-held}
 use Rattle.catalogue.specs.Layout.{catalogue}
-use Rattle.catalogue.specs.Within.{catalogue-list, catalogue-tables}
+use Rattle.catalogue.specs.Values.{catalogue-list, catalogue-tables}
 use Rattle.resolving.specs.Steps.{resolved-at, resolved-off}
 use Rattle.deleted.specs.Writes.{bound-ready, bound-whole, never-refused}
 use borrow.Author.Needs.{needs}

@@ -4,7 +4,7 @@ use mathlib.Core.Path.{_∙_}
 use Rattle.bundle.specs.Held.{is-held}
 use Rattle.bound.specs.Layout.{boundStatement}
 use Rattle.catalogue.specs.Layout.{table}
-use Rattle.catalogue.specs.Within.{catalogue-list, catalogue-tables}
+use Rattle.catalogue.specs.Values.{catalogue-list, catalogue-tables}
 use Rattle.resolving.specs.Steps.{step-on, step-off, sized-as, sized-refused, resolved-at, resolved-off}
 use Rattle.deleting.specs.Deletes.{delete-steps}
 use Rattle.deleting.specs.Within.{held-both, delete-condition}

@@ -9,7 +9,7 @@ use Rattle.bundle.specs.Bundle.{partsOf, IsBundle}
 use Rattle.bundle.specs.Decides.{failed, passed}
 use Rattle.bundle.specs.Held.{Is, held, is-held, same, list-bundle}
 use Rattle.catalogue.specs.Layout.{table, catalogue}
-use Rattle.catalogue.specs.Within.{catalogue-list}
+use Rattle.catalogue.specs.Values.{catalogue-list}
 use Rattle.faces.specs.Told.{none-obeys, no-table, the-table}
 use Rattle.faces.proofs.sirklemet_obeys.Statement.{statement}
 use Rattle.faces.proofs.sirklemet_obeys.Tie as tie

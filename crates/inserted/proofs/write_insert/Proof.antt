@@ -2,7 +2,7 @@
 -- Assumes nothing.
 use Rattle.bundle.specs.Held.{Holds, is-held}
 use Rattle.catalogue.specs.Layout.{catalogue}
-use Rattle.catalogue.specs.Within.{catalogue-tables, catalogue-list}
+use Rattle.catalogue.specs.Values.{catalogue-tables, catalogue-list}
 use Rattle.statement.specs.Layout.{insertion}
 use Rattle.rules.specs.Statements.{Insert}
 use Rattle.rules.specs.Tables.{Catalogue}

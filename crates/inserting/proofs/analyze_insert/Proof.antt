@@ -3,7 +3,7 @@
 use mathlib.Core.Path.{sym, _∙_}
 use Rattle.bundle.specs.Held.{Holds, is-held, held}
 use Rattle.catalogue.specs.Layout.{table, catalogue}
-use Rattle.catalogue.specs.Within.{catalogue-tables, catalogue-list}
+use Rattle.catalogue.specs.Values.{catalogue-tables, catalogue-list}
 use Rattle.statement.specs.Layout.{insertion}
 use Rattle.bound.specs.Layout.{boundStatement}
 use Rattle.rules.specs.Statements.{Insert}

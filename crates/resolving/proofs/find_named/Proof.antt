@@ -5,7 +5,7 @@ use mathlib.Core.List.{List}
 use Prim.Native.Nat.{ℕ, _≤_}
 use lib.ListN.{length}
 use Rattle.bundle.specs.Held.{held}
-use Rattle.catalogue.specs.Finds.{FindsTable}
+use Rattle.lookup.specs.Finds.{FindsTable}
 use Rattle.names.specs.Compared.{named}
 use Rattle.rules.specs.Names.{canonical}
 use Rattle.rules.specs.Statements.{Name}

@@ -1,7 +1,7 @@
 -- `resolving::name_table` meets its contract.
 -- Assumes nothing.
 use mathlib.Core.Path.{sym, _∙_, subst}
-use Rattle.catalogue.specs.Finds.{FindsTable}
+use Rattle.lookup.specs.Finds.{FindsTable}
 use Rattle.rules.specs.Names.{canonical}
 use Rattle.resolving.specs.Steps.{off-resolved}
 use Rattle.resolving.specs.Tables.{namedTable, Only, only, only-is, only-short, only-value, named-several, named-is, named-none}

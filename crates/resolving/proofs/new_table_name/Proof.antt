@@ -3,7 +3,7 @@
 use mathlib.Core.Path.{sym, ap, _∙_, subst}
 use lib.ListN.{length}
 use Rattle.codec.specs.Layout.{text}
-use Rattle.catalogue.specs.Finds.{FindsTable}
+use Rattle.lookup.specs.Finds.{FindsTable}
 use Rattle.rules.specs.Names.{canonical}
 use Rattle.resolving.specs.Steps.{sized-given, sized-refused}
 use Rattle.resolving.specs.Tables.{canonical-length, Only, only, only-is, only-short, only-value, new-several, new-taken, new-free}

@@ -3,7 +3,7 @@
 use mathlib.Core.Path.{sym, _∙_}
 use Rattle.bundle.specs.Held.{is-held}
 use Rattle.catalogue.specs.Layout.{catalogue}
-use Rattle.catalogue.specs.Within.{catalogue-tables, catalogue-list}
+use Rattle.catalogue.specs.Values.{catalogue-tables, catalogue-list}
 use Rattle.statement.specs.Layout.{tableWithJoins, updating}
 use Rattle.resolving.specs.Short.{update-short, short-table}
 use Rattle.resolving.specs.Steps.{TableGiven, resolved-at, resolved-off}

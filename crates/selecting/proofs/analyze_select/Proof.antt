@@ -5,7 +5,7 @@ use mathlib.Core.Bool.{false}
 use Rattle.bundle.specs.Held.{Is, Holds, is-held, held, held-once}
 use Rattle.bound.specs.Layout.{boundStatement}
 use Rattle.catalogue.specs.Layout.{table}
-use Rattle.catalogue.specs.Within.{catalogue-list, catalogue-tables}
+use Rattle.catalogue.specs.Values.{catalogue-list, catalogue-tables}
 use Rattle.resolving.specs.Steps.{step-on, step-off, sized-as, sized-refused, resolved-at, resolved-off}
 use Rattle.rules.specs.Statements.{Query}
 use Rattle.statement.specs.Layout.{select, queryBody, selection}

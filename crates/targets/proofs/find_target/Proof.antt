@@ -1,7 +1,7 @@
 -- `targets::find_target` meets its contract.
 -- Assumes nothing.
 use mathlib.Core.Path.{ap₂, subst}
-use Rattle.catalogue.specs.Finds.{FindsColumn}
+use Rattle.lookup.specs.Finds.{FindsColumn}
 use Rattle.names.specs.Compared.{named}
 use Rattle.rules.specs.Names.{canonical}
 use Rattle.rules.specs.Statements.{Name}

@@ -3,7 +3,7 @@
 use Prim.Native.Nat.{_-_}
 use mathlib.Core.Path.{sym, _∙_}
 use Rattle.bundle.specs.Held.{list-bundle, Along, along, along-on, Left, left, left-stop, left-on, left-end}
-use Rattle.catalogue.specs.Finds.{any-hit, any-miss}
+use Rattle.catalogue.specs.Entries.{any-hit, any-miss}
 use Rattle.rules.specs.Lists.{same}
 use Rattle.rules.specs.Names.{canonical}
 use Rattle.rules.specs.Statements.{Name}

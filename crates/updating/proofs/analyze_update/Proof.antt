@@ -8,7 +8,7 @@ use borrow.Author.Tests.{not-true, not-false}
 use Rattle.bundle.specs.Held.{Holds, is-held, held, list-bundle, list-count}
 use Rattle.bound.specs.Layout.{boundStatement}
 use Rattle.catalogue.specs.Layout.{catalogue}
-use Rattle.catalogue.specs.Within.{catalogue-tables, catalogue-list}
+use Rattle.catalogue.specs.Values.{catalogue-tables, catalogue-list}
 use Rattle.codec.specs.Layout.{listOf}
 use Rattle.statement.specs.Layout.{tableWithJoins, condition, assignment, updating}
 use Rattle.filtering.specs.There.{There, absent, present, there-is, there-reads, there-short}

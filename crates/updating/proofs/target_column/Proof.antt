@@ -7,7 +7,7 @@ use Prim.Native.Nat.{ℕ, _≤_}
 use lib.ListN.{length}
 use native.Mathlib.Omega.{arith}
 use Rattle.bundle.specs.Held.{is-held, held-once}
-use Rattle.catalogue.specs.Finds.{FindsColumn}
+use Rattle.lookup.specs.Finds.{FindsColumn}
 use Rattle.statement.specs.Layout.{objectName, assignmentTarget}
 use Rattle.marking.specs.Small.{name-length}
 use Rattle.names.specs.Compared.{named}
