@@ -3,4 +3,3 @@ pub mod Runs
 pub mod Stands
 pub mod Ready
 pub mod Rows
-pub mod Replied

@@ -51,8 +51,3 @@ leaves-written {old = old} {x = x} e l w = record {
   hears = record { number = sym (ap refusal e); size = omega (arith, w .end, ap written e) };
   output = w .is ∙ sets-front old x l ∙ sym (ap (λ (y : Outcome (List ℕ)). held y old) e);
 }
-
--- "if two outcomes could satisfy it they are proved identical": the reply and every byte of the output are determined
-pub one-reply : {o : Outcome (List ℕ)} {old new new′ : List ℕ} {r r′ : Reply} → Leaves o old r new → Leaves o old r′ new′
-    → (r .refusal ≡ r′ .refusal) × (r .length ≡ r′ .length) × (new ≡ new′)
-one-reply p q = (p .hears .number ∙ sym (q .hears .number), p .hears .size ∙ sym (q .hears .size), p .output ∙ sym (q .output))

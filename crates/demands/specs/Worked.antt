@@ -34,8 +34,8 @@ use Rattle.statement.specs.Layout as statement-layout
 use Rattle.bound.specs.Columns as bound-columns
 use Rattle.bound.specs.Expression as bound-expression
 use Rattle.bound.specs.Layout as bound-layout
 use Rattle.sirklemet.specs.Entry.{bindBytes, runBytes, readStatement, readCatalogue}
-use Rattle.sirklemet.specs.Hex.{hex}
+use Rattle.demands.specs.Hex.{hex}
 
 abbrev pub catalogueBytes : List ℕ
 catalogueBytes = hex "01008b000400140004005d000c00070000000000000003000000000000000100000072756e730400160017001400120002000a0006000400000000000000010073657269616c02000a000700090000000000000000006d696e7574657302000a0004000200000000000000000174656d7002000a000200050000000000000002006f6b010008000400000000000000"

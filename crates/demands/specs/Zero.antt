@@ -1,33 +1,25 @@
--- Demand 3's "it binds exactly if ..", of the reply: a number of 0 is an answer, so what `bindBytes` answers is what a caller of `bind` hears.
+-- No refusal has the number 0: where a caller of `bind` hears 0 it is an answer.
 -- Assumes nothing.
-use mathlib.Core.Path.{_≡_, refl, sym, ap, _∙_}
+use mathlib.Core.Path.{_≡_, refl}
 use mathlib.Core.Bool.{Bool, true, false, cond, not, _&&_}
 use mathlib.Core.Option.{Option, none, some}
-use mathlib.Core.Logic.{_↔_}
 use mathlib.Core.List.{List}
 use Prim.Native.Nat.{ℕ}
 use native.Mathlib.Omega.{arith}
 use lib.Dec.{leb}
-use lib.ListN.{length}
 use Rattle.rules.specs.declared.Class.{Class}
 use Rattle.rules.specs.declared.Class.the-variants.{SchemaMismatch, ConstraintViolation, UnsupportedSql, InvalidArgument}
-use Rattle.rules.specs.Tables.{TableSchema, Catalogue}
-use Rattle.rules.specs.Statements.{Expr, Update, Statement}
+use Rattle.rules.specs.Tables.{Catalogue}
+use Rattle.rules.specs.Statements.{Statement}
 use Rattle.rules.specs.Bound.{BoundStatement}
 use Rattle.rules.specs.Answers.{Answer, given, refused}
 use Rattle.rules.specs.Analyze.{analyze}
 use Rattle.rules.specs.Limits.{statementWithin, catalogueWithin, namesBeyondAscii}
-use Rattle.rules.specs.Obeys.{UpdateObeys}
 use Rattle.rules.specs.Heard.{Outcome, refuses, answers, Read, next, classNo, heard, received, judgedStatement, fitted, bindOutcome}
-use Rattle.rules.specs.Demand.{Answers, Room}
+use Rattle.rules.specs.Demand.{Answers}
 use Rattle.rules.specs.Theorems.Steps.{never-answers}
-use Rattle.sirklemet.specs.declared.Reply.{Reply}
 use Rattle.sirklemet.specs.Entry.{readStatement, readCatalogue, boundSize, bindBytes, refusal}
 use Rattle.sirklemet.specs.Binds.{bytesOf}
-use Rattle.sirklemet.specs.Leaves.{Leaves}
-use Rattle.sirklemet.specs.Demand.{TakenBytes, demand-on-bytes}
-
--- ---- no refusal has the number 0
 
 class-not-zero : (k : Class) → classNo k ≡ 0 → ⊥
 class-not-zero SchemaMismatch e = omega arith
@@ -69,12 +61,3 @@ zero-answers s c room e = go (received (readStatement s) (readCatalogue c)) (rec
     go : (o : Outcome (Statement × Catalogue)) → (refusal o ≡ 0 → Answers o) → refusal (all o) ≡ 0 → Answers (all o)
     go (refuses k) z e = let a = z e in absurd (never-answers (a .1))
     go (answers p) z e = judged-zero room (analyze (p .1) (p .0)) e
-
--- ---- "It binds exactly if some marking of its expressions .. meets 01's rule at every node, .."
-
-pub replies-exactly : (s c : List ℕ) {old new : List ℕ} {r : Reply} {u : Update} {t : TableSchema} {w : Expr} → TakenBytes s c u t w
-    → Room (judgedStatement (readStatement s) (readCatalogue c)) boundSize (length old) → Leaves (bindBytes s c (length old)) old r new
-    → ((r .refusal ≡ 0) ↔ UpdateObeys t (u .assignments) w)
-replies-exactly s c {old} {u = u} {t = t} {w = w} h fits l =
-    let d = demand-on-bytes s c u t w h .0 (length old) fits in
-    (λ e. d .0 (zero-answers s c (length old) (sym (l .hears .number) ∙ e)), λ o. l .hears .number ∙ ap refusal (d .1 o .1))
