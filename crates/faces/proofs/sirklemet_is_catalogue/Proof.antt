@@ -1,4 +1,4 @@
--- `faces::sirklemet_is_catalogue` meets its contract: it hands on what `catalogue::is_catalogue` answers.
+-- `faces::sirklemet_is_catalogue` meets its contract: it hands on what `soundness::is_catalogue` answers.
 -- Assumes nothing.
 use borrow.Author.Needs.{needs}
 use Rattle.faces.proofs.sirklemet_is_catalogue.Statement.{statement}
