@@ -1,0 +1,155 @@
+-- `rerun::replayed` meets its contract. The invariant: what is counted and what is left come to the whole record.
+-- Assumes nothing.
+use mathlib.Core.Path.{_≡_, sym, ap, _∙_, subst}
+use mathlib.Core.Bool.{Bool, true, false}
+use mathlib.Core.List.{List}
+use Prim.Native.Nat.{ℕ, _-_}
+use native.Mathlib.Omega.{arith}
+use lib.ListN.{length, take, drop, length-drop}
+use lib.Seq.{take-all}
+use Rattle.recorded.specs.Layout.{behind}
+use Rattle.recorded.specs.declared.Tally.{Tally}
+use borrow.Author.Needs.{needs}
+use borrow.Author.Tests.{not-false}
+use denote.Ref.{now}
+use Rattle.bundle.specs.Decides.{failed, passed}
+use Rattle.recorded.specs.declared.Replayed.{Replayed}
+use Rattle.recorded.specs.Cases.{case-head}
+use Rattle.recorded.specs.Counts.{replayed, Replays}
+use Rattle.recorded.specs.Counting.{Replaying, replays-short, replaying-start, replaying-few, replaying-more, replays-broken, replays-all}
+use Rattle.rerun.specs.Differs.{differs}
+use Rattle.rerun.proofs.replayed.Statement.{statement}
+use Rattle.rerun.proofs.replayed.Tie as tie
+
+abbrev Inv-loop : tie.InvT-loop
+Inv-loop bytes tally₀ left₀ start rest₀ tally left rest = Replaying differs 4 bytes left rest tally
+
+abbrev μ-loop : tie.MeasureT-loop
+μ-loop bytes tally₀ left₀ start rest₀ tally left rest = left
+
+nothing-requires : tie.Need-nothing-requires Inv-loop μ-loop
+nothing-requires c κs = search needs
+
+ended-requires : tie.Need-ended-requires Inv-loop μ-loop
+ended-requires c κs = search needs
+
+returns : tie.Need-returns Inv-loop μ-loop
+returns c =
+    let b = now (c .before .before .before .before .args .bytes) in
+    subst (λ (x : Replayed). Replays differs 4 b x) (sym (c .ended .ensures ∙ ap (replayed false) (c .before .nothing .ensures)))
+    (replays-short differs 4 b (omega (arith, c .before .before .if1 .taken)))
+
+nothing-requires-2 : tie.Need-nothing-requires-2 Inv-loop μ-loop
+nothing-requires-2 c κs = search needs
+
+size-requires : tie.Need-size-requires Inv-loop μ-loop
+size-requires c κs = search needs
+
+sub-rest : tie.Need-sub-rest Inv-loop μ-loop
+sub-rest c = search needs
+
+part-rest-start : tie.Need-part-rest-start Inv-loop μ-loop
+part-rest-start c = search needs
+
+part-rest-end : tie.Need-part-rest-end Inv-loop μ-loop
+part-rest-end c = search needs
+
+loop-holds : tie.Need-loop-holds Inv-loop μ-loop
+loop-holds c =
+    let b = now (c .before .before .before .before .before .args .bytes) in
+    let n = c .before .size .result in
+    let e : take (length b - 4) (drop 4 b) ≡ drop 4 b = take-all (length b - 4) (drop 4 b) (omega (arith, length-drop 4 b)) in
+    subst (λ (x : List ℕ). Replaying differs 4 b n x (c .before .before .nothing2 .result)) (sym e)
+    (subst (λ (t : Tally). Replaying differs 4 b n (drop 4 b) t) (sym (c .before .before .nothing2 .ensures))
+    (replaying-start differs 4 b (omega (arith, c .before .before .before .if1 .left)) (c .before .size .ensures)))
+
+is-case-requires : tie.Need-is-case-requires Inv-loop μ-loop
+is-case-requires c κs = search needs
+
+ended-requires-2 : tie.Need-ended-requires-2 Inv-loop μ-loop
+ended-requires-2 c κs = search needs
+
+returns-2 : tie.Need-returns-2 Inv-loop μ-loop
+returns-2 c =
+    let b = now (c .before .before .before .before .before .before .before .before .before .before .args .bytes) in
+    subst (λ (x : Replayed). Replays differs 4 b x) (sym (c .ended2 .ensures))
+    (replays-broken differs 4 b (c .before .before .before .before .loop .inv) (omega (arith, c .before .before .before .loop-test .taken)) (failed (c .before .before .is-case .ensures) (c .before .if2 .taken)))
+
+shared-slice-read-counted : tie.Need-shared-slice-read-counted Inv-loop μ-loop
+shared-slice-read-counted c =
+    omega (arith, case-head 4 (now (c .before .before .before .before .loop .rest)) (passed (c .before .before .is-case .ensures) (c .before .if2 .left)))
+
+differs-requires : tie.Need-differs-requires Inv-loop μ-loop
+differs-requires c κs = passed (c .before .before .is-case .ensures) (c .before .if2 .left)
+
+counted-requires : tie.Need-counted-requires Inv-loop μ-loop
+counted-requires c κs = replaying-few differs 4 (now (c .before .before .before .before .before .before .before .before .before .before .before .args .bytes)) (c .before .before .before .before .before .loop .inv)
+
+case-length-requires : tie.Need-case-length-requires Inv-loop μ-loop
+case-length-requires c κs = (passed (c .before .before .before .before .is-case .ensures) (c .before .before .before .if2 .left), omega arith)
+
+sub-rest-2 : tie.Need-sub-rest-2 Inv-loop μ-loop
+sub-rest-2 c = search needs
+
+part-rest-start-2 : tie.Need-part-rest-start-2 Inv-loop μ-loop
+part-rest-start-2 c = search needs
+
+part-rest-end-2 : tie.Need-part-rest-end-2 Inv-loop μ-loop
+part-rest-end-2 c = search needs
+
+sub-left : tie.Need-sub-left Inv-loop μ-loop
+sub-left c = search needs
+
+loop-less : tie.Need-loop-less Inv-loop μ-loop
+loop-less c = search needs
+
+loop-again : tie.Need-loop-again Inv-loop μ-loop
+loop-again c =
+    let l = c .before .before .before .before .before .before .before .before in
+    let b = now (l .before .before .before .before .before .before .args .bytes) in
+    let r = now (l .loop .rest) in
+    let n = c .before .case-length .result in
+    let e : take (length r - n) (drop n r) ≡ behind 4 r =
+    take-all (length r - n) (drop n r) (omega (arith, length-drop n r)) ∙ ap (λ (m : ℕ). drop m r) (c .before .case-length .ensures .0) in
+    subst (λ (x : List ℕ). Replaying differs 4 b (l .loop .left - 1) x (c .before .before .counted .result)) (sym e)
+    (subst (λ (t : Tally). Replaying differs 4 b (l .loop .left - 1) (behind 4 r) t) (sym (c .before .before .counted .ensures))
+    (replaying-more differs 4 b (l .loop .inv) (omega (arith, c .before .before .before .before .before .before .before .loop-test .taken)) (passed (c .before .before .before .before .before .before .is-case .ensures) (c .before .before .before .before .before .if2 .left)) (c .before .before .before .differs .ensures)))
+
+ended-requires-3 : tie.Need-ended-requires-3 Inv-loop μ-loop
+ended-requires-3 c κs = search needs
+
+returns-3 : tie.Need-returns-3 Inv-loop μ-loop
+returns-3 c =
+    let b = now (c .before .before .before .before .before .before .before .before .args .bytes) in
+    subst (λ (x : Replayed). Replays differs 4 b x) (sym (c .ended3 .ensures)) (replays-all differs 4 b (c .before .before .loop .inv) (omega (arith, c .before .loop-test .left)))
+
+pub replayed-spec : {M : Type 1} → statement M
+replayed-spec =
+    tie.close
+    (tie.spec
+    Inv-loop
+    μ-loop
+    nothing-requires
+    ended-requires
+    returns
+    nothing-requires-2
+    size-requires
+    sub-rest
+    part-rest-start
+    part-rest-end
+    loop-holds
+    is-case-requires
+    ended-requires-2
+    returns-2
+    shared-slice-read-counted
+    differs-requires
+    counted-requires
+    case-length-requires
+    sub-rest-2
+    part-rest-start-2
+    part-rest-end-2
+    sub-left
+    loop-less
+    loop-again
+    ended-requires-3
+    returns-3)
