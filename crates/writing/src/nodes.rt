@@ -3,11 +3,11 @@ use crate::Bound;
 use bound::nodes::put_node;
 use expression::kind;
 use operators::Ruling;
-use operators::binary;
 use operators::null_test;
 use operators::unary;
 use rules::BoundBinaryOperator;
 use rules::BoundUnaryOperator;
+use rules::ExpressionType;
 use rules::Mark;
 ghost use mathlib.Core.Path.{_≡_};
 ghost use Prim.Native.Nat.{_+_, _*_, _<_, _≤_};
@@ -19,7 +19,7 @@ ghost use Rattle.rules.specs.Statements as statements;
 ghost use Rattle.operators.specs.declared.Ruling.the-variants as ruling;
 ghost use Rattle.writing.specs.Signs.{signs};
 ghost use Rattle.writing.specs.Rows.{Rooted};
-ghost use Rattle.writing.specs.Fine.{IsFine, Granted};
+ghost use Rattle.writing.specs.Fine.{IsFine, Granted, resultType};
 
 // Whether an operator of kind k over node j is a sign directly over a number.
 pub fn signs_number(e: &[u8], j: usize, k: u8) -> bool
@@ -77,11 +77,36 @@ fn operator(k: u8) -> BoundBinaryOperator
     }
 }
 
+// What an operator gives wherever its rule is kept: the table need not be asked again.
+fn result_type(o: BoundBinaryOperator) -> ExpressionType
+    ensures { λ r. ⌜ r ≡ resultType o ⌝ }
+{
+    match o {
+        BoundBinaryOperator::Add => ExpressionType::Int,
+        BoundBinaryOperator::Subtract => ExpressionType::Int,
+        BoundBinaryOperator::Multiply => ExpressionType::Int,
+        BoundBinaryOperator::Divide => ExpressionType::Int,
+        BoundBinaryOperator::Modulo => ExpressionType::Int,
+        BoundBinaryOperator::Equal => ExpressionType::Bool,
+        BoundBinaryOperator::NotEqual => ExpressionType::Bool,
+        BoundBinaryOperator::GreaterThan => ExpressionType::Bool,
+        BoundBinaryOperator::GreaterThanOrEqual => ExpressionType::Bool,
+        BoundBinaryOperator::LessThan => ExpressionType::Bool,
+        BoundBinaryOperator::LessThanOrEqual => ExpressionType::Bool,
+        BoundBinaryOperator::And => ExpressionType::Bool,
+        BoundBinaryOperator::Or => ExpressionType::Bool,
+    }
+}
+
 pub fn two_operands(k: u8, a: Mark, b: Mark) -> Mark
     requires { ⌜ ((16 ≤ k) × (k < 30)) × IsFine (binaryRule (binOf k) a b) ⌝ }
     ensures { λ r. ⌜ binaryRule (binOf k) a b ≡ fine r ⌝ }
 {
-    granted(binary(operator(k), a, b))
+    let ty = result_type(operator(k));
+    Mark {
+        ty,
+        nullable: a.nullable || b.nullable,
+    }
 }
 
 // The row of a node that has `nodes` nodes below it, whose contents have `content` bytes.
