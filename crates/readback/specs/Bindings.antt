@@ -92,7 +92,7 @@ table-fine t h = record {
 }
 
 -- what holds of all holds of the one that is found
-find-every : {A : Type 0} (P : A → Type 0) (p : A → Bool) (l : List A) {y : A} → Every P l → find p l ≡ some y → P y
+pub find-every : {A : Type 0} (P : A → Type 0) (p : A → Bool) (l : List A) {y : A} → Every P l → find p l ≡ some y → P y
 find-every P p [] {y} h e = absurd (never-some e)
 find-every {A} P p (x ∷ l) {y} h e = go (p x) (find-every P p l (h .1)) e
   where

@@ -10,7 +10,7 @@ use lib.ListN.{length, length-append, length-map}
 use Rattle.wire.specs.Le.{le}
 use Rattle.codec.specs.Format.{Format, Parts, Every}
 use Rattle.codec.specs.Ways.{joined, rowWrite}
-use Rattle.codec.specs.Layout.{number, end, _and_, each, pieces, bundle, optional, listOf}
+use Rattle.codec.specs.Layout.{number, end, _and_, each, pieces, bundle, optional, listOf, recordOf}
 
 -- 2 ^ 32
 abbrev pub limit : ℕ
@@ -21,7 +21,7 @@ abbrev pub Fits : {A : Type 0} → Format A → (A → Type 0) → Type 0
 Fits {A} f Q = (a : A) → Q a → length (f .write a) < limit → f .Ok a
 
 -- the same of a value as parts
-abbrev pub PartsFit : {A : Type 0} → Parts A → (A → Type 0) → Type 0
+abbrev PartsFit : {A : Type 0} → Parts A → (A → Type 0) → Type 0
 PartsFit {A} p Q = (a : A) → Q a → Every (λ s. length s < limit) (p .split a) → p .Ok a
 
 -- ---- a part is no longer than the whole
@@ -46,16 +46,16 @@ pieces-length l =
 
 -- ---- bundles
 
-pub bundle-fits : {A : Type 0} (p : Parts A) (Q : A → Type 0) → PartsFit p Q → Fits (bundle 4 p) Q
+bundle-fits : {A : Type 0} (p : Parts A) (Q : A → Type 0) → PartsFit p Q → Fits (bundle 4 p) Q
 bundle-fits p Q f a q h =
     let n = pieces-length (p .split a) in
     let s = each-short (p .split a) (omega arith) in
     (omega arith, s, f a q s)
 
-pub end-fits : PartsFit end (λ u. Unit {0})
+end-fits : PartsFit end (λ u. Unit {0})
 end-fits u q s = tt
 
-pub and-fits : {A B : Type 0} (f : Format A) (p : Parts B) (Q : A → Type 0) (R : B → Type 0) → Fits f Q → PartsFit p R
+and-fits : {A B : Type 0} (f : Format A) (p : Parts B) (Q : A → Type 0) (R : B → Type 0) → Fits f Q → PartsFit p R
     → PartsFit (f and p) (λ x. Q (x .0) × R (x .1))
 and-fits f p Q R g k x q s = (g (x .0) (q .0) (s .0), k (x .1) (q .1) (s .1))
 
@@ -65,6 +65,22 @@ each-fits f Q g (a ∷ l) q s = (g a (q .0) (s .0), each-fits f Q g l (q .1) (s 
 
 pub list-fits : {A : Type 0} (f : Format A) (Q : A → Type 0) → Fits f Q → Fits (listOf 4 f) (Every Q)
 list-fits f Q g = bundle-fits (each f) (Every Q) (each-fits f Q g)
+
+module _ {A B : Type 0} (f : Format A) (g : Format B) (Q : A → Type 0) (R : B → Type 0) (p : Fits f Q) (q : Fits g R) where
+  pub record2-fits : (a : A) (b : B) → Q a → R b → length (recordOf 4 (f and g and end) .write (a, (b, tt))) < limit
+      → recordOf 4 (f and g and end) .Ok (a, (b, tt))
+  record2-fits a b m n h =
+      bundle-fits (f and g and end) (λ x. Q (x .0) × (R (x .1 .0) × Unit {0}))
+      (and-fits f (g and end) Q (λ x. R (x .0) × Unit {0}) p (and-fits g end R (λ u. Unit {0}) q end-fits)) (a, (b, tt)) (m, (n, tt)) h
+
+module _ {A B C : Type 0} (f : Format A) (g : Format B) (h : Format C) (Q : A → Type 0) (R : B → Type 0) (S : C → Type 0)
+    (p : Fits f Q) (q : Fits g R) (r : Fits h S) where
+  pub record3-fits : (a : A) (b : B) (c : C) → Q a → R b → S c → length (recordOf 4 (f and g and h and end) .write (a, (b, (c, tt)))) < limit
+      → recordOf 4 (f and g and h and end) .Ok (a, (b, (c, tt)))
+  record3-fits a b c m n k l =
+      bundle-fits (f and g and h and end) (λ x. Q (x .0) × (R (x .1 .0) × (S (x .1 .1 .0) × Unit {0})))
+      (and-fits f (g and h and end) Q (λ x. R (x .0) × (S (x .1 .0) × Unit {0})) p
+      (and-fits g (h and end) R (λ x. S (x .0) × Unit {0}) q (and-fits h end S (λ u. Unit {0}) r end-fits))) (a, (b, (c, tt))) (m, (n, (k, tt))) l
 
 -- ---- what may be there
 
