@@ -17,7 +17,7 @@ use Rattle.rules.specs.Statements.{Kind, createTable, insert, query, update, de
 use Rattle.rules.specs.Bound.{BoundStatement, boundShowTransactions}
 use Rattle.rules.specs.Trimmed.{isShowTransactions}
 use Rattle.rules.specs.Analyze.{analyzeKind, analyze}
-use Rattle.rules.specs.Heard.{answers, heard, received, judgedStatement, bindOutcome}
+use Rattle.rules.specs.Heard.{answers, received, judgedStatement, bindOutcome}
 use Rattle.rules.specs.Theorems.Answered.{never-given}
 use Rattle.rules.specs.Theorems.Steps.{step-past, heard-answers}
 use Rattle.rules.specs.Theorems.Stages.{next-answers}

@@ -1,11 +1,11 @@
 -- What a bound statement says of its table, of its columns and of its expressions: every number fits its field and every text is UTF-8, where the
 -- catalogue and the statement have images.
 -- Assumes nothing.
-use mathlib.Core.Path.{_≡_, refl, sym, ap, _∙_, subst}
+use mathlib.Core.Path.{_≡_, refl, sym, subst}
 use mathlib.Core.Bool.{Bool, true, false, cond}
 use mathlib.Core.List.{List, [], _∷_}
-use mathlib.Core.Option.{Option, none, some, Option·none-ne-some, Option·some-injective}
-use Prim.Native.Nat.{ℕ, zero, suc, _+_, _-_, _*_, _^_, _<_}
+use mathlib.Core.Option.{Option, none, some, Option·some-injective}
+use Prim.Native.Nat.{ℕ, suc, _+_, _^_, _<_}
 use native.Mathlib.Omega.{arith}
 use lib.IntN.{ℤ, negℤ}
 use lib.ListN.{length, length-map}
@@ -26,11 +26,11 @@ use Rattle.rules.specs.declared.Class.{Class}
 use Rattle.rules.specs.declared.Class.the-variants.{SchemaMismatch, UnsupportedSql}
 use Rattle.rules.specs.declared.BoundBinaryOperator.{BoundBinaryOperator}
 use Rattle.rules.specs.Lists.{Text, find}
-use Rattle.rules.specs.Answers.{Answer, given, found, _>>=_, Verdict, fine, flaw, judged}
+use Rattle.rules.specs.Answers.{given, found, _>>=_, Verdict, fine, flaw, judged}
 use Rattle.rules.specs.Tables.{ColumnSchema, TableSchema, Catalogue, tableNamed, tableByName}
-use Rattle.rules.specs.Statements.{Name, ObjectName, Leaf, Unary, parentheses, nullTest, unary, otherUnary, Binary, binary, otherBinary, Expr, TableWithJoins}
+use Rattle.rules.specs.Statements.{Leaf, Unary, parentheses, nullTest, unary, otherUnary, Binary, binary, otherBinary, Expr, TableWithJoins}
 use Rattle.rules.specs.Bound.{Value, BoundColumnRef, Marked, BoundLeaf, BoundUnary, BoundExpr, markOf}
-use Rattle.rules.specs.Names.{canonical, simpleName}
+use Rattle.rules.specs.Names.{canonical}
 use Rattle.rules.specs.Numbers.{inRange, numberText, ranged, integerLiteral}
 use Rattle.rules.specs.Lookup.{boundTable, boundColumn, boundColumnsFrom, boundColumns, columnByName}
 use Rattle.rules.specs.Marking.{
@@ -49,7 +49,7 @@ use Rattle.rules.specs.Marking.{
 use Rattle.rules.specs.Analyze.{relationName, resolveDirectTable}
 use Rattle.rules.specs.Theorems.Answered.{bind-given, never-fine, never-given, never-some}
 use Rattle.rules.specs.Theorems.Steps.{step, step-past}
-use Rattle.rules.specs.Theorems.Values.{StandsAt, here, behind, ColumnOf, column-of}
+use Rattle.rules.specs.Theorems.Values.{StandsAt, here, behind, column-of}
 use Rattle.readback.specs.Values.{nodeLabels}
 use Rattle.readback.specs.Lengths.{limit, Fits}
 

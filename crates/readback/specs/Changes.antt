@@ -1,8 +1,8 @@
 -- What an UPDATE, a DELETE, a SELECT and an INSERT are bound to: every number fits its field and every text is UTF-8, where the catalogue and the
 -- statement have images.
 -- Assumes nothing.
-use mathlib.Core.Path.{_≡_, refl, sym, ap, _∙_, subst}
-use mathlib.Core.Bool.{Bool, true, false}
+use mathlib.Core.Path.{_≡_, refl, sym, subst}
+use mathlib.Core.Bool.{Bool, false}
 use mathlib.Core.List.{List, [], _∷_, _++_}
 use mathlib.Core.Option.{Option, none, some}
 use lib.IntN.{ℤ}
@@ -21,7 +21,6 @@ use Rattle.updating.specs.Targets.{column-named}
 use Rattle.updated.specs.Given.{AllGiven, assignments-given, table-given, update-given}
 use Rattle.deleting.specs.Deletes.{deletedTable}
 use Rattle.deleted.specs.Writes.{delete-given}
-use Rattle.resolving.specs.Tables.{namedTable}
 use Rattle.targeted.specs.Refs.{target}
 use Rattle.tupled.specs.Listing.{literals}
 use Rattle.inserted.specs.Parts.{analyzed, into-parts}
@@ -29,7 +28,7 @@ use Rattle.rules.specs.declared.Class.the-variants.{SchemaMismatch, Unsupported
 use Rattle.rules.specs.Lists.{Text}
 use Rattle.rules.specs.Answers.{Answer, given, found, each}
 use Rattle.rules.specs.Tables.{TableSchema, Catalogue, tableByName}
-use Rattle.rules.specs.Statements.{Name, ObjectName, Leaf, Expr, SourceBody, values, Source, Insert, TableWithJoins, Item, star, column, otherItem, From, one, notOne, Select, QueryBody, plainSelect, notPlain, Query, Assignment, Update, DeleteFrom, Delete}
+use Rattle.rules.specs.Statements.{Leaf, Expr, values, Source, Insert, Item, star, column, otherItem, Select, QueryBody, plainSelect, notPlain, Query, Assignment, Update, Delete}
 use Rattle.rules.specs.Bound.{Value, BoundColumnRef, BoundExpr, BoundAssignment, BoundStatement}
 use Rattle.rules.specs.Names.{canonical, simpleName}
 use Rattle.rules.specs.Numbers.{integerLiteral}

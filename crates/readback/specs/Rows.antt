@@ -1,17 +1,16 @@
 -- The row that an UPDATE makes has an image, where the old row and the assignments' values have one.
 -- Assumes nothing.
-use mathlib.Core.Path.{_≡_, refl, sym, _∙_}
+use mathlib.Core.Path.{_≡_, refl, sym}
 use mathlib.Core.Bool.{Bool, true, false}
 use mathlib.Core.List.{List, [], _∷_, map}
 use mathlib.Core.Option.{Option, none, some}
 use Prim.Native.Nat.{ℕ, _^_, _<_}
 use native.Mathlib.Omega.{arith}
-use lib.ListN.{length, set, length-map, length-set}
+use lib.ListN.{length, length-map, length-set}
 use Rattle.codec.specs.Format.{Every}
 use Rattle.value.specs.Parts.{value}
 use Rattle.row.specs.Layout as row
 use Rattle.statement.specs.Layout as statement
-use Rattle.expression.specs.Expression.{expression}
 use Rattle.rules.specs.Tables.{TableSchema}
 use Rattle.rules.specs.Statements.{Expr, Assignment}
 use Rattle.rules.specs.Bound.{Value, BoundColumnRef}

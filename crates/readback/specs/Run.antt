@@ -3,37 +3,34 @@
 use mathlib.Core.Path.{_≡_, refl, sym, ap, _∙_}
 use mathlib.Core.Bool.{Bool, true, false, cond}
 use mathlib.Core.List.{List}
-use mathlib.Core.Option.{Option, none, some, Option·map}
+use mathlib.Core.Option.{Option, none, some}
 use Prim.Native.Nat.{ℕ}
-use native.Mathlib.Omega.{arith}
-use lib.Dec.{leb}
 use Rattle.wire.specs.Le.{Bytes}
 use Rattle.codec.specs.Format.{Every}
 use Rattle.bundle.specs.Bundle.{isThere}
 use Rattle.row.specs.Layout as row
 use Rattle.statement.specs.Layout as statement
-use Rattle.catalogue.specs.Layout as catalogue
 use Rattle.rules.specs.Answers.{given}
 use Rattle.rules.specs.Tables.{TableSchema, Catalogue}
-use Rattle.rules.specs.Statements.{Update, Kind, update, Statement}
+use Rattle.rules.specs.Statements.{Update, update, Statement}
 use Rattle.rules.specs.Bound.{BoundStatement}
 use Rattle.rules.specs.Analyze.{analyzeKind, analyze}
 use Rattle.rules.specs.Obeys.{UpdateObeys}
 use Rattle.rules.specs.Rows.{Row, rowObeys}
 use Rattle.rules.specs.Evaluate.{Worked, worked, fault, noRule, updateRow}
 use Rattle.rules.specs.Trimmed.{isShowTransactions}
-use Rattle.rules.specs.Heard.{Outcome, refuses, answers, heard, Read, next, received, fitted, Running, updateOf, runnable, asked, obeying, workedOut, ranOn, ranStatement, runOutcome}
+use Rattle.rules.specs.Heard.{refuses, answers, heard, received, Running, updateOf, runnable, asked, obeying, workedOut, ranStatement, runOutcome}
 use Rattle.rules.specs.Theorems.Answered.{never-some}
 use Rattle.rules.specs.Theorems.Steps.{never-answers, heard-answers}
 use Rattle.rules.specs.Theorems.Stages.{next-answers}
-use Rattle.rules.specs.Theorems.Order.{Clear, received-clear, Obeying}
+use Rattle.rules.specs.Theorems.Order.{Obeying}
 use Rattle.rules.specs.Theorems.Update.{update-exactly}
 use Rattle.rules.specs.Theorems.Values.{comes-to}
 use Rattle.rules.specs.Theorems.Rows.{update-obeys}
 use Rattle.analyzer.specs.Dispatch.{goes-by-kind, update-rule}
 use Rattle.updated.specs.Given.{update-given}
 use Rattle.runner.specs.Asked.{Dispatched, runnable-is}
-use Rattle.sirklemet.specs.Entry.{sized, readStatement, readCatalogue, rowSize, runBytes}
+use Rattle.sirklemet.specs.Entry.{readStatement, readCatalogue, rowSize, runBytes}
 use Rattle.readback.specs.Judging.{Judged, judged-of, answers-same, fitted-answers, kind-ok}
 use Rattle.readback.specs.Rows.{row-fine, fine-row, updated-fine}
 
