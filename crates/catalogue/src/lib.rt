@@ -107,14 +107,14 @@ pub fn are_tables(s: &[u8]) -> bool
     }
     let n = bundle::parts(s, 2);
     let mut at = bundle::first(s, 2);
-    let mut i = 0;
-    while i < n {
-        let end = bundle::next(s, 2, i, at);
+    let mut table = 0;
+    while table < n {
+        let end = bundle::next(s, 2, table, at);
         if !is_table_shape(&s[at..end]) {
             return false;
         }
         at = end;
-        i += 1;
+        table += 1;
     }
     true
 }

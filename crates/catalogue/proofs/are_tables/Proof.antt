@@ -57,8 +57,8 @@ returns-2 c =
     let b = c .before .before .before in
     walk-stop (b .before .before .loop .inv) (b .next .ensures) (failed (c .before .is-table-shape .ensures) (c .if2 .taken))
 
-add-i : tie.Need-add-i Inv-loop μ-loop
-add-i c = search needs
+add-table : tie.Need-add-table Inv-loop μ-loop
+add-table c = search needs
 
 loop-less : tie.Need-loop-less Inv-loop μ-loop
 loop-less c = search needs
@@ -88,7 +88,7 @@ are-tables-spec =
     part-is-table-shape-end
     is-table-shape-requires
     returns-2
-    add-i
+    add-table
     loop-less
     loop-again
     returns-3)
