@@ -1,18 +1,18 @@
--- How deep the tree at a node is: what the answers for the operands make of the node's.
+-- How deep the tree at a node is: what the answers for the operands make of the node's, and what is left to ask on the way down (`Asks`).
 -- Assumes nothing.
-use mathlib.Core.Path.{_≡_, _∙_, sym, ap}
+use mathlib.Core.Path.{_≡_, _∙_, refl, sym}
 use mathlib.Core.Bool.{Bool, true, false, not}
+use mathlib.Core.List.{List}
 use Prim.Native.Nat.{ℕ, _+_, _-_, _<_, _≤_, max}
 use native.Mathlib.Omega.{arith}
 use native.Mathlib.Decide.{decLe}
 use lib.Dec.{leb}
 use borrow.Author.Tests.{le-leb, lt-leb, leb-true, leb-false, not-true, not-false}
+use Rattle.wire.specs.Le.{Bytes}
 use Rattle.tree.specs.Tree.{leaf, un, bin, depth}
 use Rattle.rules.specs.Statements.{Expr}
-use Rattle.expression.specs.Place.{Node, Root, top}
-use Rattle.expression.specs.Heads.{leaf-range}
-use Rattle.expression.specs.Trees.{kindOf}
-use Rattle.expression.specs.Laws.{leaf-at, un-at, bin-at}
+use Rattle.expression.specs.Place.{Node, nodeAt, Root, HasNode}
+use Rattle.expression.specs.Laws.{leaf-at, un-at, bin-at, last-operand, first-operand}
 
 depth-pos : (e : Expr) → 1 ≤ depth e
 unfolding depth
@@ -37,32 +37,71 @@ abbrev pub Told : (ℕ → Node) → ℕ → ℕ → Bool → Type 0
 Told v i m r = (e : Expr) → Root v i e → r ≡ leb (depth e) m
 
 module _ (v : ℕ → Node) (i m : ℕ) where
-  pub no-budget : m ≡ 0 → Told v i m false
+  no-budget : m ≤ 0 → Told v i m false
   no-budget z e h = sym (lt-leb (depth e) m (omega (arith, depth-pos e)))
 
-  module _ (some : m ≡ 0 → ⊥) (k : ℕ) (is : k ≡ (v i) .kind) where
-    pub at-leaf : k < 9 → Told v i m true
+  module _ (some : 0 < m) (k : ℕ) (is : k ≡ (v i) .kind) where
+    at-leaf : k < 9 → Told v i m true
     unfolding depth
     at-leaf hi e h = rw (leaf-at v i k is e h hi) (sym (le-leb 1 m (omega arith)))
 
-    module _ (lo : 9 ≤ k) (r : Bool) (last : Told v (i - 1) (m - 1) r) where
-      pub last-deep : not r ≡ true → Told v i m false
-      unfolding Root top depth
-      last-deep f (leaf l) h = absurd (omega (arith, leaf-range l, ap kindOf h))
-      last-deep f (un o a) h = sym (lt-leb (depth a + 1) m (omega (arith, leb-false (depth a) (m - 1) (sym (last a (h .2)) ∙ not-true r f))))
-      last-deep f (bin o a b) h = sym (lt-leb (max (depth a) (depth b) + 1) m (omega (arith, leb-false (depth b) (m - 1) (sym (last b (h .3)) ∙ not-true r f))))
+    one-told : 9 ≤ k → k < 16 → (q : Bool) → Told v (i - 1) (m - 1) q → Told v i m q
+    unfolding depth
+    one-told lo hi q last e h =
+        let u = un-at v i k is e h lo hi in
+        let x = depth (u .operand) in
+        rw (u .is) (last (u .operand) (u .root) ∙ leb-same x (m - 1) (x + 1) m (omega arith) (omega arith))
 
-      pub one-told : k < 16 → not r ≡ false → Told v i m true
+    module _ (lo : 16 ≤ k) (r : Bool) (last : Told v (i - 1) (m - 1) r) (n : ℕ) (d : n ≡ (v (i - 1)) .span) where
+      last-deep : not r ≡ true → Told v i m false
       unfolding depth
-      one-told hi f e h =
-          let u = un-at v i k is e h lo hi in
-          rw (u .is) (sym (le-leb (depth (u .operand) + 1) m (omega (arith, leb-true (depth (u .operand)) (m - 1) (sym (last (u .operand) (u .root)) ∙ not-false r f)))))
+      last-deep f e h =
+          let t = bin-at v i k is n d e h lo in
+          let x = depth (t .left) in
+          let y = depth (t .right) in
+          let g : m - 1 < y = leb-false y (m - 1) (sym (last (t .right) (t .right-root)) ∙ not-true r f) in
+          rw (t .is) (sym (lt-leb (max x y + 1) m (omega arith)))
 
-      pub two-told : 16 ≤ k → not r ≡ false → (n : ℕ) → n ≡ (v (i - 1)) .span → (q : Bool) → Told v (i - 1 - n) (m - 1) q → Told v i m q
+      two-told : not r ≡ false → (q : Bool) → Told v (i - 1 - n) (m - 1) q → Told v i m q
       unfolding depth
-      two-told hi f n d q first e h =
-          let t = bin-at v i k is n d e h hi in
+      two-told f q first e h =
+          let t = bin-at v i k is n d e h lo in
           let x = depth (t .left) in
           let y = depth (t .right) in
           let g : y ≤ m - 1 = leb-true y (m - 1) (sym (last (t .right) (t .right-root)) ∙ not-false r f) in
           rw (t .is) (first (t .left) (t .left-root) ∙ leb-same x (m - 1) (max x y + 1) m (omega arith) (omega arith))
+
+-- what is left to ask: whether the tree at node j is at most m deep is whether the tree at node i is at most n deep
+pub record Asks (s : List ℕ) (i n j m : ℕ) : Type 0 where
+  pub node : HasNode s j
+  pub fewer : m ≤ n
+  pub answers : (r : Bool) → Told (nodeAt s) j m r → Told (nodeAt s) i n r
+
+pub begun : {s : List ℕ} {i n : ℕ} → HasNode s i → Asks s i n i n
+begun h = record { node = h; fewer = omega arith; answers = λ r t. t }
+
+module _ {s : List ℕ} {i n j m : ℕ} (a : Asks s i n j m) where
+  pub spent : m ≤ 0 → Told (nodeAt s) i n false
+  spent z = a .answers false (no-budget (nodeAt s) j m z)
+
+  module _ (some : 0 < m) {k : ℕ} (is : k ≡ (nodeAt s j) .kind) where
+    pub leaf-ends : k < 9 → Told (nodeAt s) i n true
+    leaf-ends hi = a .answers true (at-leaf (nodeAt s) j m some k is hi)
+
+    pub one-left : Bytes s → 9 ≤ k → k < 16 → Asks s i n (j - 1) (m - 1)
+    one-left b lo hi = record {
+      node = last-operand b (a .node) k is lo .1;
+      fewer = omega (arith, a .fewer);
+      answers = λ r t. a .answers r (one-told (nodeAt s) j m some k is lo hi r t);
+    }
+
+    module _ (lo : 16 ≤ k) {r : Bool} (last : Told (nodeAt s) (j - 1) (m - 1) r) where
+      pub deep-ends : not r ≡ true → Told (nodeAt s) i n false
+      deep-ends f = a .answers false (last-deep (nodeAt s) j m some k is lo r last _ refl f)
+
+      pub two-left : Bytes s → not r ≡ false → {w : ℕ} → w ≡ (nodeAt s (j - 1)) .span → Asks s i n (j - 1 - w) (m - 1)
+      two-left b f {w} d = record {
+        node = first-operand b (a .node) k is w d lo .1;
+        fewer = omega (arith, a .fewer);
+        answers = λ q t. a .answers q (two-told (nodeAt s) j m some k is lo r last w d f q t);
+      }

@@ -72,26 +72,29 @@ pub fn is_expression(s: &[u8]) -> bool
     layout::span(s, last) == n
 }
 
-// Whether the tree whose root is node i is at most `budget` nodes deep (a leaf is 1). It calls itself at most `budget` deep, whatever the tree.
+// Whether the tree whose root is node i is at most `budget` nodes deep (a leaf is 1). It calls itself at most `budget` deep, whatever the tree;
+// an operand on the left takes no call.
 pub fn depth_at_most(s: &[u8], i: usize, budget: usize) -> bool
     requires { ⌜ HasNode (now s) i ⌝ }
     ensures { λ r. ⌜ ((e : Expr) → Root (nodeAt (now (s .entry))) i e → r ≡ leb (depth e) budget) ⌝ }
 {
-    if budget == 0 {
-        return false;
+    let mut node = i;
+    let mut left = budget;
+    while 0 < left {
+        let k = kind(s, node);
+        if k < 9 {
+            return true;
+        }
+        left -= 1;
+        node -= 1;
+        if 16 <= k {
+            if !depth_at_most(s, node, left) {
+                return false;
+            }
+            node -= span(s, node);
+        }
     }
-    let k = kind(s, i);
-    if k < 9 {
-        return true;
-    }
-    let last = i - 1;
-    if !depth_at_most(s, last, budget - 1) {
-        return false;
-    }
-    if k < 16 {
-        return true;
-    }
-    depth_at_most(s, last - span(s, last), budget - 1)
+    false
 }
 
 // Whether every name of the expression is within paper 01's limit.
