@@ -10,7 +10,7 @@ use lib.Dec.{ltb}
 use lib.ListN.{length}
 use Rattle.rules.specs.Heard.{Outcome, refuses}
 use Rattle.sirklemet.specs.declared.Reply.{Reply}
-use Rattle.sirklemet.specs.Entry.{bindBytes}
+use Rattle.receiving.specs.Entry.{bindBytes}
 use Rattle.sirklemet.specs.Leaves.{Hears, Leaves, reply, hears-refusal, hears-same}
 
 abbrev pub most : ℕ

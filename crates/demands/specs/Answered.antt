@@ -18,7 +18,7 @@ use Rattle.rules.specs.Theorems.Demand.{demand}
 use Rattle.rules.specs.Theorems.Steps.{never-answers}
 use Rattle.row.specs.Layout as row
 use Rattle.bound.specs.Layout as bound
-use Rattle.sirklemet.specs.Entry.{boundSize, rowSize, bindBytes, runBytes}
+use Rattle.receiving.specs.Entry.{boundSize, rowSize, bindBytes, runBytes}
 use Rattle.demands.specs.Demand.{TakenBytes, RoomToBind, RoomToRun}
 
 -- an outcome, with the image of its answer

@@ -22,7 +22,7 @@ use Rattle.rules.specs.Heard.{Read, judgedStatement, ranStatement}
 use Rattle.rules.specs.Demand.{Taken, Room}
 use Rattle.row.specs.Layout as row
 use Rattle.sirklemet.specs.declared.Reply.{Reply}
-use Rattle.sirklemet.specs.Entry.{readStatement, readCatalogue, boundSize, rowSize, bindBytes, runBytes}
+use Rattle.receiving.specs.Entry.{readStatement, readCatalogue, boundSize, rowSize, bindBytes, runBytes}
 use Rattle.sirklemet.specs.Leaves.{Leaves}
 
 -- ---- what a caller hears: the contracts of `sirklemet::bind` and `runner::run`

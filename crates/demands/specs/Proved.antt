@@ -17,7 +17,7 @@ use Rattle.rules.specs.Tables.{TableSchema}
 use Rattle.rules.specs.Theorems.Demand.{demand}
 use Rattle.row.specs.Layout as row
 use Rattle.sirklemet.specs.declared.Reply.{Reply}
-use Rattle.sirklemet.specs.Entry.{refusal, written, held}
+use Rattle.receiving.specs.Entry.{refusal, written, held}
 use Rattle.demands.specs.Answered.{answers-exactly, Faults, Comes, faults-or-comes}
 use Rattle.demands.specs.Demand.{TakenBytes, RoomToBind, RoomToRun, BindReplies, RunReplies, Yields, Runs, Demand}
 use Rattle.demands.specs.Zero.{zero-answers}

@@ -34,7 +34,7 @@ use Rattle.statement.specs.Layout as statement-layout
 use Rattle.bound.specs.Columns as bound-columns
 use Rattle.bound.specs.Expression as bound-expression
 use Rattle.bound.specs.Layout as bound-layout
-use Rattle.sirklemet.specs.Entry.{bindBytes, runBytes, readStatement, readCatalogue}
+use Rattle.receiving.specs.Entry.{bindBytes, runBytes, readStatement, readCatalogue}
 use Rattle.demands.specs.Hex.{hex}
 
 abbrev pub catalogueBytes : List ℕ

@@ -1,15 +1,14 @@
 // The public operations and the readers as C calls them: a slice is a pointer and a length, and any bytes will do. Nothing is judged here that
 // a crate below does not judge.
-use sirklemet::received;
 ghost use mathlib.Core.Path.{_≡_};
 ghost use lib.ListN.{length};
 ghost use Rattle.bundle.specs.Bundle.{isThere};
 ghost use Rattle.statement.specs.Layout.{statement};
 ghost use Rattle.catalogue.specs.Layout.{catalogue};
 ghost use Rattle.row.specs.Layout.{row};
-ghost use Rattle.sirklemet.specs.Entry.{bindBytes, runBytes};
+ghost use Rattle.receiving.specs.Entry.{bindBytes, runBytes};
 ghost use Rattle.sirklemet.specs.Leaves.{Leaves, reply};
-ghost use Rattle.sirklemet.specs.Told.{toldOfStatement, toldOfCatalogue};
+ghost use Rattle.receiving.specs.Told.{toldOfStatement, toldOfCatalogue};
 ghost use Rattle.faces.specs.Told.{toldObeys};
 
 // 0, with `written` bytes of the bound statement at the front of `out`; or the number of a refusal, with `written` 0 and `out` as it was.
@@ -57,7 +56,7 @@ pub extern "C" fn sirklemet_is_statement(bytes: &[u8]) -> bool
 pub extern "C" fn sirklemet_read_statement(bytes: &[u8]) -> u8
     ensures { λ r. ⌜ r ≡ toldOfStatement (now (bytes .entry)) ⌝ }
 {
-    received::read_statement(bytes)
+    receiving::read_statement(bytes)
 }
 
 #[no_mangle]
@@ -72,7 +71,7 @@ pub extern "C" fn sirklemet_is_catalogue(bytes: &[u8]) -> bool
 pub extern "C" fn sirklemet_read_catalogue(bytes: &[u8]) -> u8
     ensures { λ r. ⌜ r ≡ toldOfCatalogue (now (bytes .entry)) ⌝ }
 {
-    received::read_catalogue(bytes)
+    receiving::read_catalogue(bytes)
 }
 
 // Of whatever table.

@@ -21,7 +21,7 @@ use Rattle.rules.specs.Heard.{answers, received, judgedStatement, bindOutcome}
 use Rattle.rules.specs.Theorems.Answered.{never-given}
 use Rattle.rules.specs.Theorems.Steps.{step-past, heard-answers}
 use Rattle.rules.specs.Theorems.Stages.{next-answers}
-use Rattle.sirklemet.specs.Entry.{readStatement, readCatalogue, boundSize, bindBytes}
+use Rattle.receiving.specs.Entry.{readStatement, readCatalogue, boundSize, bindBytes}
 use Rattle.readback.specs.Judging.{Judged, judged-of, answers-same, fitted-answers, kind-ok}
 use Rattle.readback.specs.Lengths.{limit}
 use Rattle.readback.specs.Bindings.{given-same}

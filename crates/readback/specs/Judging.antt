@@ -14,7 +14,7 @@ use Rattle.rules.specs.Heard.{Outcome, refuses, answers, Read, received, fitted
 use Rattle.rules.specs.Theorems.Answered.{never-some}
 use Rattle.rules.specs.Theorems.Steps.{never-answers}
 use Rattle.rules.specs.Theorems.Order.{received-clear}
-use Rattle.sirklemet.specs.Entry.{sized, readStatement, readCatalogue}
+use Rattle.receiving.specs.Entry.{sized, readStatement, readCatalogue}
 
 -- ---- what was read
 

@@ -30,7 +30,7 @@ use Rattle.rules.specs.Theorems.Rows.{update-obeys}
 use Rattle.analyzer.specs.Dispatch.{goes-by-kind, update-rule}
 use Rattle.updated.specs.Given.{update-given}
 use Rattle.runner.specs.Asked.{Dispatched, runnable-is}
-use Rattle.sirklemet.specs.Entry.{readStatement, readCatalogue, rowSize, runBytes}
+use Rattle.receiving.specs.Entry.{readStatement, readCatalogue, rowSize, runBytes}
 use Rattle.readback.specs.Judging.{Judged, judged-of, answers-same, fitted-answers, kind-ok}
 use Rattle.readback.specs.Rows.{row-fine, fine-row, updated-fine}
 

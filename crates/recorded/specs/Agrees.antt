@@ -12,7 +12,7 @@ use lib.Seq.{take-all, take-at, drop-at}
 use Rattle.rules.specs.Heard.{Outcome, refuses, answers}
 use Rattle.rules.specs.Lists.{same}
 use Rattle.sirklemet.specs.declared.Reply.{Reply}
-use Rattle.sirklemet.specs.Entry.{refusal, written, held}
+use Rattle.receiving.specs.Entry.{refusal, written, held}
 use Rattle.sirklemet.specs.Leaves.{Leaves}
 
 -- ---- of an outcome: the record has its number, 0 where there is an answer, and the answer's bytes, none where it is refused

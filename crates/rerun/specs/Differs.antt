@@ -3,7 +3,7 @@
 use mathlib.Core.Bool.{Bool, not}
 use mathlib.Core.List.{List}
 use Prim.Native.Nat.{ℕ}
-use Rattle.sirklemet.specs.Entry.{runBytes}
+use Rattle.receiving.specs.Entry.{runBytes}
 use Rattle.recorded.specs.Layout.{answer, room, part}
 use Rattle.recorded.specs.Agrees.{isRecorded}
 

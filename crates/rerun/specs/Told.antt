@@ -6,7 +6,7 @@ use mathlib.Core.List.{List}
 use Prim.Native.Nat.{ℕ}
 use lib.ListN.{length}
 use Rattle.sirklemet.specs.declared.Reply.{Reply}
-use Rattle.sirklemet.specs.Entry.{runBytes}
+use Rattle.receiving.specs.Entry.{runBytes}
 use Rattle.sirklemet.specs.Leaves.{Leaves}
 use Rattle.recorded.specs.Layout.{answer, room, part}
 use Rattle.recorded.specs.Agrees.{isRecorded, agreeing, agreeing-is}

@@ -42,8 +42,8 @@ use Rattle.rules.specs.Heard.{
   runOutcome,
 }
 use Rattle.sirklemet.specs.declared.Reply.{Reply}
-use Rattle.sirklemet.specs.Entry.{readStatement, readCatalogue, rowSize, runBytes, refusal, held}
-use Rattle.sirklemet.specs.Told.{toldOfBoth}
+use Rattle.receiving.specs.Entry.{readStatement, readCatalogue, rowSize, runBytes, refusal, held}
+use Rattle.receiving.specs.Told.{toldOfBoth}
 use Rattle.sirklemet.specs.Binds.{Received}
 use Rattle.sirklemet.specs.Leaves.{Leaves, hears-same}
 

@@ -31,7 +31,7 @@ use Rattle.analyzer.specs.Dispatch.{update-limited}
 use Rattle.analyzer.specs.Kinds.{Behind}
 use Rattle.updated.specs.Given.{given-same}
 use Rattle.updating.specs.Within.{Limited}
-use Rattle.sirklemet.specs.Entry.{sized, readStatement, readCatalogue}
+use Rattle.receiving.specs.Entry.{sized, readStatement, readCatalogue}
 use Rattle.sirklemet.specs.Binds.{Received, statement-within}
 use Rattle.runner.specs.Asked.{Dispatched}
 

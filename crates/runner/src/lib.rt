@@ -1,5 +1,6 @@
-// The public operation `run`: an UPDATE run on one row. `specs/Entry.antt` of `sirklemet` has what it answers and what its output then holds.
+// The public operation `run`: an UPDATE run on one row. `specs/Entry.antt` of `receiving` has what it answers and what its output then holds.
 use analyzer::analyze;
+use receiving::received;
 use resolving::Measured;
 use resolving::Resolved;
 use resolving::resolve_direct_table;
@@ -8,7 +9,6 @@ use running::row_size;
 use running::write_row;
 use sirklemet::Reply;
 use sirklemet::class_number;
-use sirklemet::received::received;
 use sirklemet::refused;
 use update::assignments;
 use update::condition_of;
@@ -25,7 +25,7 @@ ghost use Rattle.rules.specs.Heard.{Running};
 ghost use Rattle.rules.specs.Statements.{Statement};
 ghost use Rattle.rules.specs.Tables.{Catalogue};
 ghost use Rattle.statement.specs.Layout.{statement};
-ghost use Rattle.sirklemet.specs.Entry.{runBytes};
+ghost use Rattle.receiving.specs.Entry.{runBytes};
 ghost use Rattle.sirklemet.specs.Leaves.{Leaves};
 ghost use Rattle.running.specs.Updates.{Runnable};
 ghost use Rattle.runner.specs.Ready.{Holding};

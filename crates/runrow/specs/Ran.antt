@@ -12,7 +12,7 @@ use lib.ListN.{length, take, drop, length-append}
 use lib.Seq.{take-append-seam, length-take-le}
 use Rattle.rules.specs.Heard.{Outcome, refuses, answers}
 use Rattle.sirklemet.specs.declared.Reply.{Reply}
-use Rattle.sirklemet.specs.Entry.{runBytes, refusal, written, held}
+use Rattle.receiving.specs.Entry.{runBytes, refusal, written, held}
 use Rattle.sirklemet.specs.Leaves.{Leaves, reply, leaves-as-it-was}
 use Rattle.runrow.specs.Zero.{Numbered, test-numbered, run-numbered}
 

@@ -30,8 +30,8 @@ use Rattle.resolving.specs.Room.{Bindable, bindable}
 use Rattle.analyzer.specs.Within.{StatementWithin}
 use Rattle.bound.specs.Layout as bound
 use Rattle.bound.specs.Layout.{boundStatement}
-use Rattle.sirklemet.specs.Entry.{sized, readStatement, readCatalogue, boundSize, bindBytes, refusal}
-use Rattle.sirklemet.specs.Told.{toldOfBoth}
+use Rattle.receiving.specs.Entry.{sized, readStatement, readCatalogue, boundSize, bindBytes, refusal}
+use Rattle.receiving.specs.Told.{toldOfBoth}
 use Rattle.sirklemet.specs.Leaves.{Leaves, reply, leaves-written}
 
 -- ---- both are received

@@ -9,7 +9,7 @@ use lib.Seq.{sets}
 use Rattle.wire.specs.Sets.{Wrote}
 use Rattle.rules.specs.Heard.{Outcome, refuses, answers}
 use Rattle.sirklemet.specs.declared.Reply.{Reply}
-use Rattle.sirklemet.specs.Entry.{refusal, written, held}
+use Rattle.receiving.specs.Entry.{refusal, written, held}
 
 -- r is the reply to an outcome o
 pub record Hears (o : Outcome (List ℕ)) (r : Reply) : Type 0 where

@@ -1,4 +1,2 @@
-pub mod Entry
-pub mod Told
 pub mod Binds
 pub mod Leaves

@@ -1,8 +1,7 @@
-// The public operations. `specs/Entry.antt` has what each answers and what its output then holds.
-pub mod received;
+// The public operations. `specs/Leaves.antt` has what an output then holds, `receiving` what each answers on bytes.
 
 use analyzer::analyze;
-use received::received;
+use receiving::received;
 use resolving::Measured;
 use rules::Class;
 use rules::Refusal;
@@ -10,7 +9,7 @@ use writer::write;
 ghost use mathlib.Core.Path.{_≡_};
 ghost use lib.ListN.{length};
 ghost use Rattle.rules.specs.Heard.{classNo};
-ghost use Rattle.sirklemet.specs.Entry.{bindBytes};
+ghost use Rattle.receiving.specs.Entry.{bindBytes};
 ghost use Rattle.sirklemet.specs.Binds.{Measures};
 ghost use Rattle.sirklemet.specs.Leaves.{Leaves, reply};
 

@@ -1,4 +1,4 @@
--- `faces::sirklemet_read_catalogue` meets its contract: it hands on what `received::read_catalogue` answers.
+-- `faces::sirklemet_read_catalogue` meets its contract: it hands on what `receiving::read_catalogue` answers.
 -- Assumes nothing.
 use borrow.Author.Needs.{needs}
 use Rattle.faces.proofs.sirklemet_read_catalogue.Statement.{statement}

@@ -1,4 +1,4 @@
--- `faces::sirklemet_read_statement` meets its contract: it hands on what `received::read_statement` answers.
+-- `faces::sirklemet_read_statement` meets its contract: it hands on what `receiving::read_statement` answers.
 -- Assumes nothing.
 use borrow.Author.Needs.{needs}
 use Rattle.faces.proofs.sirklemet_read_statement.Statement.{statement}

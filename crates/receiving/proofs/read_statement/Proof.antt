@@ -1,4 +1,4 @@
--- `sirklemet::received::read_statement` meets its contract.
+-- `receiving::read_statement` meets its contract.
 -- Assumes nothing.
 use mathlib.Core.Path.{refl, sym, _∙_}
 use borrow.Author.Needs.{needs}
@@ -6,9 +6,9 @@ use borrow.Author.Tests.{not-true, not-false}
 use Rattle.bundle.specs.Decides.{failed, passed}
 use Rattle.bundle.specs.Held.{Is, held}
 use Rattle.statement.specs.Layout as layout
-use Rattle.sirklemet.specs.Told.{no-statement, judged-statement}
-use Rattle.sirklemet.proofs.received.read_statement.Statement.{statement}
-use Rattle.sirklemet.proofs.received.read_statement.Tie as tie
+use Rattle.receiving.specs.Told.{no-statement, judged-statement}
+use Rattle.receiving.proofs.read_statement.Statement.{statement}
+use Rattle.receiving.proofs.read_statement.Tie as tie
 
 is-statement-requires : tie.Need-is-statement-requires
 is-statement-requires c κs = search needs

@@ -19,7 +19,7 @@ use Rattle.statement.specs.Layout as statement-layout
 use Rattle.statement.specs.Layout.{statement}
 use Rattle.catalogue.specs.Layout as catalogue-layout
 use Rattle.catalogue.specs.Layout.{catalogue}
-use Rattle.sirklemet.specs.Entry.{sized, readStatement, readCatalogue, refusal}
+use Rattle.receiving.specs.Entry.{sized, readStatement, readCatalogue, refusal}
 
 -- 5, then 7, then 8
 abbrev pub ofStatement : ℕ → Option Statement → ℕ

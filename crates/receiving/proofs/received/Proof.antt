@@ -1,9 +1,9 @@
--- `sirklemet::received::received` meets its contract: what is told of both is joined of what is told of each.
+-- `receiving::received` meets its contract: what is told of both is joined of what is told of each.
 -- Assumes nothing.
 use borrow.Author.Needs.{needs}
-use Rattle.sirklemet.specs.Told.{no-statement-first, catalogue-next, statement-last}
-use Rattle.sirklemet.proofs.received.received.Statement.{statement}
-use Rattle.sirklemet.proofs.received.received.Tie as tie
+use Rattle.receiving.specs.Told.{no-statement-first, catalogue-next, statement-last}
+use Rattle.receiving.proofs.received.Statement.{statement}
+use Rattle.receiving.proofs.received.Tie as tie
 
 read-statement-requires : tie.Need-read-statement-requires
 read-statement-requires c κs = search needs

@@ -1,6 +1,6 @@
 // What is told of a statement's bytes and of a catalogue's before the rules are asked: paper 01's refusals 5 to 8, and 0 where there is none.
 ghost use mathlib.Core.Path.{_≡_};
-ghost use Rattle.sirklemet.specs.Told.{toldOfStatement, toldOfCatalogue, toldOfBoth};
+ghost use Rattle.receiving.specs.Told.{toldOfStatement, toldOfCatalogue, toldOfBoth};
 
 // 5: no statement. 7: one past a limit. 8: one with an unquoted name beyond ASCII. 0: one that the rules judge.
 pub fn read_statement(s: &[u8]) -> u8

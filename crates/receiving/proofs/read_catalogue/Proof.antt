@@ -1,4 +1,4 @@
--- `sirklemet::received::read_catalogue` meets its contract.
+-- `receiving::read_catalogue` meets its contract.
 -- Assumes nothing.
 use mathlib.Core.Path.{sym, _∙_}
 use borrow.Author.Needs.{needs}
@@ -6,9 +6,9 @@ use borrow.Author.Tests.{not-true, not-false}
 use Rattle.bundle.specs.Decides.{failed, passed}
 use Rattle.bundle.specs.Held.{Is, held}
 use Rattle.catalogue.specs.Layout.{catalogue}
-use Rattle.sirklemet.specs.Told.{no-catalogue, judged-catalogue}
-use Rattle.sirklemet.proofs.received.read_catalogue.Statement.{statement}
-use Rattle.sirklemet.proofs.received.read_catalogue.Tie as tie
+use Rattle.receiving.specs.Told.{no-catalogue, judged-catalogue}
+use Rattle.receiving.proofs.read_catalogue.Statement.{statement}
+use Rattle.receiving.proofs.read_catalogue.Tie as tie
 
 is-catalogue-requires : tie.Need-is-catalogue-requires
 is-catalogue-requires c κs = search needs
