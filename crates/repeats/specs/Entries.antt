@@ -6,7 +6,7 @@ use mathlib.Core.List.{List, [], _∷_, map}
 use mathlib.Core.Option.{Option, none, some}
 use Prim.Native.Nat.{ℕ}
 use Rattle.codec.specs.Format.{Format}
-use Rattle.codec.specs.Layout.{listOf}
+use Rattle.codec.specs.Layout.{listOf, optional}
 use Rattle.bundle.specs.Held.{Holds, Is}
 use Rattle.rules.specs.Lists.{Text, all}
 use Rattle.rules.specs.Names.{canonical}
@@ -55,6 +55,20 @@ entry o v = compared (nameIn o v)
 abbrev pub alikeNames : Option Name → Option Name → Bool
 alikeNames a b = alike (compared a) (compared b)
 
+-- ---- the name that an entry has, as bytes
+
+pub name-not-empty : name .read [] ≡ none
+unfolding name
+name-not-empty = refl
+
+-- a name, or no byte where there is none
+abbrev pub maybeName : Format (Option Name)
+maybeName = optional name name-not-empty
+
+-- q is the name of what p holds, or no byte where that has none
+pub record Named {A : Type 0} (f : Format A) (g : A → Option Name) (p q : List ℕ) : Type 0 where
+  pub is : (v : A) → Holds f p v → Holds maybeName q (g v)
+
 -- ---- what the code may rely on
 
 abbrev pub shortName : Option Name → Bool
@@ -66,6 +80,10 @@ pub record ShortIn {A : Type 0} (f : Format A) (g : A → Option Name) (s : List
   pub is : Is f s
   pub short : (v : A) → Holds f s v → shortName (g v) ≡ true
 
+-- s is a name of at most 128 bytes, or no byte
+abbrev pub ShortName : List ℕ → Type 0
+ShortName s = ShortIn maybeName (λ n. n) s
+
 -- s holds a list of such entries
 pub record AllShort (o : Of) (s : List ℕ) : Type 0 where
   pub is : Is (listOf 2 (form o)) s
@@ -76,6 +94,10 @@ pub record AllShort (o : Of) (s : List ℕ) : Type 0 where
 -- whether the entries in p and q are alike
 abbrev pub Compares : (o : Of) → List ℕ → List ℕ → Bool → Type 0
 Compares o p q r = (v w : Entry o) → Holds (form o) p v → Holds (form o) q w → r ≡ alikeNames (nameIn o v) (nameIn o w)
+
+-- the same by the bytes of their names
+abbrev pub ComparesNames : List ℕ → List ℕ → Bool → Type 0
+ComparesNames p q r = (v w : Option Name) → Holds maybeName p v → Holds maybeName q w → r ≡ alikeNames v w
 
 -- the place of the first entry that repeats an earlier one
 abbrev pub FindsRepeat : Of → List ℕ → Repeat → Type 0

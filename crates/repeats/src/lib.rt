@@ -5,12 +5,12 @@ use statement::names::name_text;
 use statement::names::object_name_code;
 use statement::names::only_name;
 ghost use mathlib.Core.Path.{_≡_};
-ghost use mathlib.Core.Option.{some};
-ghost use Rattle.bundle.specs.Held.{Holds};
-ghost use Rattle.rules.specs.Statements.{Name, ObjectName, Target};
+ghost use mathlib.Core.Option.{none, some};
+ghost use Rattle.bundle.specs.Held.{Holds, Is};
+ghost use Rattle.rules.specs.Statements.{Name};
 ghost use Rattle.statement.specs.Layout.{name, objectName, assignmentTarget};
 ghost use Rattle.repeats.specs.Repeats.{isAt};
-ghost use Rattle.repeats.specs.Entries.{form, alikeNames, objectIn, targetIn, nameIn, ShortIn, AllShort, Compares, FindsRepeat};
+ghost use Rattle.repeats.specs.Entries.{form, alikeNames, objectIn, targetIn, nameIn, maybeName, Named, ShortIn, ShortName, AllShort, ComparesNames, FindsRepeat};
 
 // What an entry is: a name, a column's definition or an assignment. An assignment to a tuple or to a qualified name has no name.
 pub enum Of {
@@ -47,41 +47,57 @@ pub fn are_alike_names(a: &[u8], b: &[u8]) -> bool
     )
 }
 
-fn are_alike_objects(a: &[u8], b: &[u8]) -> bool
-    requires { ⌜ ShortIn objectName objectIn (now a) × ShortIn objectName objectIn (now b) ⌝ }
-    ensures { λ r. ⌜ ((v w : ObjectName) → Holds objectName (now (a .entry)) v → Holds objectName (now (b .entry)) w → r ≡ alikeNames (objectIn v) (objectIn w)) ⌝ }
+// No name at all: no byte. A name has one at least, its mark.
+fn no_name(s: &[u8]) -> &[u8]
+    ensures { λ r. ⌜ Holds maybeName (now r) none ⌝ }
 {
-    if object_name_code(a) == 0 {
-        return false;
-    }
-    if object_name_code(b) == 0 {
-        return false;
-    }
-    are_alike_names(only_name(a), only_name(b))
+    &s[..0]
 }
 
-fn are_alike_targets(a: &[u8], b: &[u8]) -> bool
-    requires { ⌜ ShortIn assignmentTarget targetIn (now a) × ShortIn assignmentTarget targetIn (now b) ⌝ }
-    ensures { λ r. ⌜ ((v w : Target) → Holds assignmentTarget (now (a .entry)) v → Holds assignmentTarget (now (b .entry)) w → r ≡ alikeNames (targetIn v) (targetIn w)) ⌝ }
+fn object_name(o: &[u8]) -> &[u8]
+    requires { ⌜ Is objectName (now o) ⌝ }
+    ensures { λ r. ⌜ Named objectName objectIn (now (o .entry)) (now r) ⌝ }
 {
-    if update::target_code(a) == 0 {
-        return false;
+    if object_name_code(o) == 0 {
+        return no_name(o);
     }
-    if update::target_code(b) == 0 {
-        return false;
-    }
-    are_alike_objects(update::target_name(a), update::target_name(b))
+    only_name(o)
 }
 
-fn are_alike(a: &[u8], b: &[u8], of: Of) -> bool
-    requires { ⌜ ShortIn (form of) (nameIn of) (now a) × ShortIn (form of) (nameIn of) (now b) ⌝ }
-    ensures { λ r. ⌜ Compares of (now (a .entry)) (now (b .entry)) r ⌝ }
+fn target_named(g: &[u8]) -> &[u8]
+    requires { ⌜ Is assignmentTarget (now g) ⌝ }
+    ensures { λ r. ⌜ Named assignmentTarget targetIn (now (g .entry)) (now r) ⌝ }
+{
+    if update::target_code(g) == 0 {
+        return no_name(g);
+    }
+    object_name(update::target_name(g))
+}
+
+// The name that an entry has, or no byte where it has none.
+fn named(e: &[u8], of: Of) -> &[u8]
+    requires { ⌜ Is (form of) (now e) ⌝ }
+    ensures { λ r. ⌜ Named (form of) (nameIn of) (now (e .entry)) (now r) ⌝ }
 {
     match of {
-        Of::Names => are_alike_names(a, b),
-        Of::Columns => are_alike_names(create::column_name(a), create::column_name(b)),
-        Of::Targets => are_alike_targets(update::target_of(a), update::target_of(b)),
+        Of::Names => e,
+        Of::Columns => create::column_name(e),
+        Of::Targets => target_named(update::target_of(e)),
     }
+}
+
+// Whether two entries have one name.
+fn are_alike(a: &[u8], b: &[u8]) -> bool
+    requires { ⌜ ShortName (now a) × ShortName (now b) ⌝ }
+    ensures { λ r. ⌜ ComparesNames (now (a .entry)) (now (b .entry)) r ⌝ }
+{
+    if a.len() == 0 {
+        return false;
+    }
+    if b.len() == 0 {
+        return false;
+    }
+    are_alike_names(a, b)
 }
 
 // The first entry that repeats an earlier one: both loops are left at once.
@@ -95,11 +111,12 @@ pub fn first_repeated(s: &[u8], of: Of) -> Repeat
     let mut i = 0;
     'search: while i < n {
         let end = bundle::next(s, 2, i, at);
+        let name = named(&s[at..end], of);
         let mut from = bundle::first(s, 2);
         let mut j = 0;
         while j < i {
             let to = bundle::next(s, 2, j, from);
-            if are_alike(&s[at..end], &s[from..to], of) {
+            if are_alike(name, named(&s[from..to], of)) {
                 place = Repeat::At(i);
                 break 'search;
             }

@@ -5,19 +5,20 @@ use borrow.Author.Needs.{needs}
 use lib.ListN.{take, drop}
 use mathlib.Core.Path.{_≡_, refl, _∙_}
 use native.Mathlib.Omega.{arith}
-use Rattle.bundle.specs.Held.{Along, along, along-on, list-bundle}
+use Rattle.bundle.specs.Held.{Along, along, along-on, list-bundle, part-is}
 use Rattle.repeats.specs.declared.Repeat.the-variants.{Nowhere}
 use Rattle.repeats.specs.Entries.{form}
-use Rattle.repeats.specs.Short.{short-part}
+use Rattle.repeats.specs.Short.{short-part, short-inside}
+use Rattle.repeats.proofs.Same.{in-named, names-compared}
 use Rattle.repeats.proofs.Search.{Searching, searching, LikeNone, like-none, like-none-on, repeat-found, searching-on, no-repeat}
 use Rattle.repeats.proofs.first_repeated.Statement.{statement}
 use Rattle.repeats.proofs.first_repeated.Tie as tie
 
 abbrev Inv-loop : tie.InvT-loop
-Inv-loop s of n place₀ at i end from₀ j₀ place from j = Along s n j from × (j ≤ i) × (place ≡ Nowhere) × LikeNone of s (take (end - at) (drop at s)) j
+Inv-loop s of n place₀ at i end name from₀ j₀ place from j = Along s n j from × (j ≤ i) × (place ≡ Nowhere) × LikeNone of s (take (end - at) (drop at s)) j
 
 abbrev μ-loop : tie.MeasureT-loop
-μ-loop s of n place₀ at i end from₀ j₀ place from j = i - j
+μ-loop s of n place₀ at i end name from₀ j₀ place from j = i - j
 
 abbrev Inv-search : tie.InvT-search
 Inv-search s of n place₀ at₀ i₀ place at i = Along s n i at × (place ≡ Nowhere) × Searching of s i
@@ -37,35 +38,45 @@ search-holds c = (along (form (c .before .before .before .args .of)) (c .before 
 next-requires : tie.Need-next-requires Inv-loop μ-loop Inv-search μ-search
 next-requires c κs = let a = c .before .search .inv .0 in (search needs, a .bundle, a .here, omega (arith, a .count, c .search-test .taken))
 
+sub-named : tie.Need-sub-named Inv-loop μ-loop Inv-search μ-search
+sub-named c = search needs
+
+part-named-start : tie.Need-part-named-start Inv-loop μ-loop Inv-search μ-search
+part-named-start c = search needs
+
+part-named-end : tie.Need-part-named-end Inv-loop μ-loop Inv-search μ-search
+part-named-end c = search needs
+
+named-requires : tie.Need-named-requires Inv-loop μ-loop Inv-search μ-search
+named-requires c κs = part-is (c .before .next .ensures) (c .before .before .before .before .before .before .before .pre .is)
+
 first-requires-2 : tie.Need-first-requires-2 Inv-loop μ-loop Inv-search μ-search
-first-requires-2 c κs = (search needs, c .before .before .search .inv .0 .bundle)
+first-requires-2 c κs = (search needs, c .before .before .before .before .search .inv .0 .bundle)
 
 loop-holds : tie.Need-loop-holds Inv-loop μ-loop Inv-search μ-search
-loop-holds c = (record { bundle = c .before .before .before .search .inv .0 .bundle; count = c .before .before .before .search .inv .0 .count; here = c .first2 .ensures }, search needs, c .before .before .before .search .inv .1, like-none)
+loop-holds c =
+    let o = c .before .before .before .before .before .search .inv in
+    (record { bundle = o .0 .bundle; count = o .0 .count; here = c .first2 .ensures }, search needs, o .1, like-none)
 
 next-requires-2 : tie.Need-next-requires-2 Inv-loop μ-loop Inv-search μ-search
-next-requires-2 c κs = let a = c .before .loop .inv .0 in (search needs, a .bundle, a .here, omega (arith, a .count, c .loop-test .taken, c .before .before .before .before .search-test .taken))
+next-requires-2 c κs = let a = c .before .loop .inv .0 in (search needs, a .bundle, a .here, omega (arith, a .count, c .loop-test .taken, c .before .before .before .before .before .before .search-test .taken))
 
-sub-are-alike : tie.Need-sub-are-alike Inv-loop μ-loop Inv-search μ-search
-sub-are-alike c = search needs
+sub-named-2 : tie.Need-sub-named-2 Inv-loop μ-loop Inv-search μ-search
+sub-named-2 c = search needs
 
-part-are-alike-start : tie.Need-part-are-alike-start Inv-loop μ-loop Inv-search μ-search
-part-are-alike-start c = search needs
+part-named-start-2 : tie.Need-part-named-start-2 Inv-loop μ-loop Inv-search μ-search
+part-named-start-2 c = search needs
 
-part-are-alike-end : tie.Need-part-are-alike-end Inv-loop μ-loop Inv-search μ-search
-part-are-alike-end c = search needs
+part-named-end-2 : tie.Need-part-named-end-2 Inv-loop μ-loop Inv-search μ-search
+part-named-end-2 c = search needs
 
-sub-are-alike-2 : tie.Need-sub-are-alike-2 Inv-loop μ-loop Inv-search μ-search
-sub-are-alike-2 c = search needs
-
-part-are-alike-start-2 : tie.Need-part-are-alike-start-2 Inv-loop μ-loop Inv-search μ-search
-part-are-alike-start-2 c = search needs
-
-part-are-alike-end-2 : tie.Need-part-are-alike-end-2 Inv-loop μ-loop Inv-search μ-search
-part-are-alike-end-2 c = search needs
+named-requires-2 : tie.Need-named-requires-2 Inv-loop μ-loop Inv-search μ-search
+named-requires-2 c κs = part-is (c .before .next2 .ensures) (c .before .before .before .before .before .before .before .before .before .before .before .before .before .pre .is)
 
 are-alike-requires : tie.Need-are-alike-requires Inv-loop μ-loop Inv-search μ-search
-are-alike-requires c κs = (short-part (c .before .before .before .before .before .before .before .before .before .before .before .before .pre) (c .before .before .before .before .before .before .next .ensures), short-part (c .before .before .before .before .before .before .before .before .before .before .before .before .pre) (c .before .before .next2 .ensures))
+are-alike-requires c κs =
+    let a = c .before .before .before .before .before .before .before .before .before .before .before .before .before .before .pre in
+    (short-inside (short-part a (c .before .before .before .before .before .before .before .before .next .ensures)) (in-named (c .before .before .before .before .before .before .named .ensures)), short-inside (short-part a (c .before .before .next2 .ensures)) (in-named (c .named2 .ensures)))
 
 add-j : tie.Need-add-j Inv-loop μ-loop Inv-search μ-search
 add-j c = search needs
@@ -75,9 +86,10 @@ loop-less c = search needs
 
 loop-again : tie.Need-loop-again Inv-loop μ-loop Inv-search μ-search
 loop-again c =
-    let l = c .before .before .before .before .before .before in
+    let l = c .before .before .before .before .before .before .loop .inv in
     let d = c .before .before .before .before .next2 .ensures in
-    (along-on (l .loop .inv .0) d, search needs, l .loop .inv .2, like-none-on d (c .before .are-alike .ensures) (l .loop .inv .3) (c .if1 .left))
+    let e = names-compared (c .before .before .before .before .before .before .before .before .named .ensures) (c .before .before .named2 .ensures) (c .before .are-alike .ensures) in
+    (along-on (l .0) d, search needs, l .2, like-none-on d e (l .3) (c .if1 .left))
 
 add-i : tie.Need-add-i Inv-loop μ-loop Inv-search μ-search
 add-i c = search needs
@@ -87,18 +99,20 @@ search-less c = search needs
 
 search-again : tie.Need-search-again Inv-loop μ-loop Inv-search μ-search
 search-again c =
-    let l = c .before in
-    let o = c .before .before .before .before .before in
-    let d = c .before .before .before .next .ensures in
-    (along-on (o .search .inv .0) d, l .loop .inv .2, searching-on (o .search .inv .2) d (l .loop .inv .3) (omega (arith, l .loop .inv .1, c .loop-test .left)))
+    let l = c .before .loop .inv in
+    let o = c .before .before .before .before .before .before .before .search .inv in
+    let d = c .before .before .before .before .before .next .ensures in
+    (along-on (o .0) d, l .2, searching-on (o .2) d (l .3) (omega (arith, l .1, c .loop-test .left)))
 
 returns : tie.Need-returns Inv-loop μ-loop Inv-search μ-search
 returns c =
-    let o = c .before in
-    λ vs k. o .search .inv .1 ∙ no-repeat (o .search .inv .2) (o .search .inv .0) (c .search-test .left) vs k
+    let o = c .before .search .inv in
+    λ vs k. o .1 ∙ no-repeat (o .2) (o .0) (c .search-test .left) vs k
 
 returns-2 : tie.Need-returns-2 Inv-loop μ-loop Inv-search μ-search
-returns-2 c = repeat-found (c .before .before .before .before .next2 .ensures) (c .before .are-alike .ensures) (c .before .before .before .before .before .before .before .before .before .before .search .inv .2) (c .before .before .before .before .before .before .before .before .next .ensures) refl (c .before .before .before .before .before .loop-test .taken) (c .if1 .taken)
+returns-2 c =
+    let e = names-compared (c .before .before .before .before .before .before .before .before .named .ensures) (c .before .before .named2 .ensures) (c .before .are-alike .ensures) in
+    repeat-found (c .before .before .before .before .next2 .ensures) e (c .before .before .before .before .before .before .before .before .before .before .before .before .search .inv .2) (c .before .before .before .before .before .before .before .before .before .before .next .ensures) refl (c .before .before .before .before .before .loop-test .taken) (c .if1 .taken)
 
 pub first-repeated-spec : {M : Type 1} → statement M
 first-repeated-spec =
@@ -112,15 +126,17 @@ first-repeated-spec =
     first-requires
     search-holds
     next-requires
+    sub-named
+    part-named-start
+    part-named-end
+    named-requires
     first-requires-2
     loop-holds
     next-requires-2
-    sub-are-alike
-    part-are-alike-start
-    part-are-alike-end
-    sub-are-alike-2
-    part-are-alike-start-2
-    part-are-alike-end-2
+    sub-named-2
+    part-named-start-2
+    part-named-end-2
+    named-requires-2
     are-alike-requires
     add-j
     loop-less
