@@ -136,7 +136,7 @@ module _ (t : List ℕ) (quoted : Bool) (name : Text) (r : Named) (found : Finds
     pub column-puts : {o o′ : List ℕ} {at end : ℕ} (id : TableId) (m : Mark) → ((v : TableSchema) → Holds table t v → id ≡ v .id)
         → ((b : BoundColumnRef) → b .ty ≡ c .ty → b .nullable ≡ c .nullable → m ≡ columnMark b)
         → Wrote o at (boundColumnRef .write (columnRef id (c .id) (c .ordinal) (c .ty) (c .nullable) (take (c .«end» - c .start) (drop (c .start) t)))) end o′
-        → Puts (Columned t quoted name) o at (record { kind = 0; mark = m; «end» = end }) o′
+        → Puts (Columned t quoted name) o at (record { kind = 0; ty = m .ty; «end» = end; nullable = m .nullable }) o′
     column-puts id m own marked w l k =
         let g = column l k in
         let q = same-ref (g .bound) (own (g .schema) (g .holds) ∙ sym (g .owner)) in

@@ -20,7 +20,7 @@ use Rattle.bound.specs.Beside.{wrote-long, beside-long}
 use Rattle.writing.specs.declared.Bound.{Bound}
 use Rattle.writing.specs.declared.Leaf.{Leaf}
 use Rattle.writing.specs.Binds.{Binds, binds-once, LeafBinds, UnBinds, BinBinds}
-use Rattle.writing.specs.Leaves.{Puts}
+use Rattle.writing.specs.Leaves.{leafMark, Puts}
 use Rattle.writing.specs.Rows.{Rooted, Laid, laid-leaf, laid-un, laid-bin}
 use Rattle.writing.specs.Writes.{Writable, Writes, leaf-row, leaf-content, un-rows, un-contents, bin-rows, bin-contents}
 use Rattle.writing.specs.Fine.{IsFine}
@@ -62,7 +62,7 @@ module _ {t e : List ℕ} {i : ℕ} {o : List ℕ} {row content from : ℕ} (w :
         let x = q (l .label) (l .rule) .wrote in
         omega (arith, leaf-row w l, leaf-content w l, w .front, x .end, wrote-long x)
 
-    pub leaf-writes : {r : Bound} {o₂ : List ℕ} → Rooted (p .kind) (p .mark) 0 from (p .«end» - content) o₁ row r o₂ → Writes t e i from o row content r o₂
+    pub leaf-writes : {r : Bound} {o₂ : List ℕ} → Rooted (p .kind) (leafMark p) 0 from (p .«end» - content) o₁ row r o₂ → Writes t e i from o row content r o₂
     leaf-writes g = writes (rw (l .is) (laid-leaf (q (l .label) (l .rule)) g (leaf-row w l)))
 
   -- one operand

@@ -7,6 +7,7 @@ use Prim.Native.Nat.{ℕ, _+_, _≤_}
 use lib.ListN.{length}
 use Rattle.wire.specs.Sets.{Wrote}
 use Rattle.rules.specs.declared.ExpressionType.{ExpressionType}
+use Rattle.rules.specs.declared.Mark.{Mark}
 use Rattle.rules.specs.Answers.{fine}
 use Rattle.rules.specs.Bound.{Marked, BoundLeaf}
 use Rattle.rules.specs.Lists.{Text}
@@ -28,7 +29,10 @@ pub record Columned (t : List ℕ) (quoted : Bool) (name : Text) (l : Marked Bou
 
 -- a literal, whose content ends at `end`
 abbrev pub literalAt : ExpressionType → Bool → ℕ → Leaf
-literalAt ty nullable end = record { kind = 1; mark = lookup.mark ty nullable; «end» = end }
+literalAt ty nullable end = record { kind = 1; ty = ty; «end» = end; nullable = nullable }
+
+abbrev pub leafMark : Leaf → Mark
+leafMark r = lookup.mark (r .ty) (r .nullable)
 
 -- the rule gives a leaf, and its content has room
 pub record LeafRoom (P : Marked BoundLeaf → Type 0) (o : List ℕ) (at : ℕ) : Type 0 where
@@ -39,7 +43,7 @@ pub record LeafRoom (P : Marked BoundLeaf → Type 0) (o : List ℕ) (at : ℕ) 
 -- the content of the leaf l is written
 pub record Put (l : Marked BoundLeaf) (o : List ℕ) (at : ℕ) (r : Leaf) (o′ : List ℕ) : Type 0 where
   pub kind : r .kind ≡ leafNo (l .kind)
-  pub mark : r .mark ≡ l .mark
+  pub mark : leafMark r ≡ l .mark
   pub wrote : Wrote o at (leafBytes (l .kind)) (r .«end») o′
 
 abbrev pub Puts : (Marked BoundLeaf → Type 0) → List ℕ → ℕ → Leaf → List ℕ → Type 0

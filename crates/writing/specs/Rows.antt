@@ -17,7 +17,7 @@ use Rattle.bound.specs.Runs.{kindNo, leafBytes, contentBytes, contentLength, ro
 use Rattle.bound.specs.Beside.{Beside, beside-none, beside-first, beside-second, beside-then}
 use Rattle.writing.specs.declared.Bound.{Bound}
 use Rattle.writing.specs.declared.Leaf.{Leaf}
-use Rattle.writing.specs.Leaves.{Put}
+use Rattle.writing.specs.Leaves.{leafMark, Put}
 
 -- the row of a node is written behind those of the `nodes` nodes below it, whose contents have `content` bytes
 pub record Rooted (kind : ℕ) (mark : Mark) (nodes from content : ℕ) (o : List ℕ) (row : ℕ) (r : Bound) (o′ : List ℕ) : Type 0 where
@@ -67,7 +67,7 @@ module _ (from : ℕ) {o o₁ o₂ : List ℕ} (row content : ℕ) where
 -- ---- the steps
 
 module _ {from : ℕ} {o o₁ o₂ : List ℕ} {row content : ℕ} {r : Bound} where
-  pub laid-leaf : {l : Marked BoundLeaf} {p : Leaf} → Put l o content p o₁ → Rooted (p .kind) (p .mark) 0 from (p .«end» - content) o₁ row r o₂
+  pub laid-leaf : {l : Marked BoundLeaf} {p : Leaf} → Put l o content p o₁ → Rooted (p .kind) (leafMark p) 0 from (p .«end» - content) o₁ row r o₂
       → row + 11 ≤ content → Laid (leaf l) from o row content r o₂
   unfolding contentLength size kindNo
   laid-leaf {l = l} {p = p} q g h =

@@ -12,7 +12,6 @@ use lookup::find_column;
 use numbers::Literal;
 use numbers::integer_literal;
 use rules::ExpressionType;
-use rules::Mark;
 use rulings::column_mark;
 ghost use mathlib.Core.Path.{_≡_};
 ghost use Prim.Native.Nat.{_<_, _≤_};
@@ -29,8 +28,9 @@ fn literal(ty: ExpressionType, nullable: bool, end: usize) -> Leaf
 {
     Leaf {
         kind: 1,
-        mark: Mark { ty, nullable },
+        ty,
         end,
+        nullable,
     }
 }
 
@@ -57,11 +57,14 @@ fn put_column(t: &[u8], quoted: bool, name: &[u8], out: &mut [u8], at: usize) ->
             let start = c.start;
             let stop = c.end;
             let end = put_found(out, at, table_id(t), c, &t[start..stop]);
-            let ty = c.ty;
+            let column_type = c.ty;
+            let m = column_mark(column_type, c.nullable);
+            let ty = m.ty;
             Leaf {
                 kind: 0,
-                mark: column_mark(ty, c.nullable),
+                ty,
                 end,
+                nullable: m.nullable,
             }
         }
         // never: the rule is kept

@@ -39,11 +39,13 @@ pub struct Bound {
     pub content: usize,
 }
 
-// A leaf whose content is written: its kind as a bound node, its mark, and where its content ends.
+// A leaf whose content is written: its kind as a bound node, its mark in two parts, and where its content ends.
+// `end` stands between the parts: side by side they are stored byte by byte and loaded as one, which waits for both stores at each leaf.
 struct Leaf {
     kind: u8,
-    mark: rules::Mark,
+    ty: rules::ExpressionType,
     end: usize,
+    nullable: bool,
 }
 
 // Node i, its rows from `row` on and its contents from `content` on. `from` bytes of content stand in front of its own.
@@ -62,7 +64,12 @@ pub fn write(
     let k = kind(e, i);
     if k < 9 {
         let l = put_content(t, e, i, k, out, content);
-        return put_root(out, row, l.kind, l.mark, 0, from, l.end - content);
+        let ty = l.ty;
+        let m = rules::Mark {
+            ty,
+            nullable: l.nullable,
+        };
+        return put_root(out, row, l.kind, m, 0, from, l.end - content);
     }
     if 16 <= k {
         return write_binary(t, e, i, k, out, row, content, from);
@@ -114,7 +121,12 @@ fn write_unary(
     let below = i - 1;
     if signs_number(e, below, k) {
         let l = put_number(text(e, below), k == 13, out, content);
-        return put_root(out, row, l.kind, l.mark, 0, from, l.end - content);
+        let ty = l.ty;
+        let m = rules::Mark {
+            ty,
+            nullable: l.nullable,
+        };
+        return put_root(out, row, l.kind, m, 0, from, l.end - content);
     }
     let a = write(t, e, below, out, row, content, from);
     let m = one_operand(k, a.mark);
