@@ -4,7 +4,7 @@ use mathlib.Core.Path.{_≡_, refl, sym, ap, ap₂, subst, _∙_}
 use mathlib.Core.Bool.{Bool, false}
 use mathlib.Core.List.{List}
 use mathlib.Core.Option.{Option, none, some}
-use Prim.Native.Nat.{ℕ, _-_, _≤_}
+use Prim.Native.Nat.{ℕ, _+_, _-_, _≤_}
 use native.Mathlib.Omega.{arith}
 use lib.IntN.{ℤ}
 use lib.ListN.{length, drop, length-drop}
@@ -77,10 +77,10 @@ module _ (t : List ℕ) (n : Name) (r : Named) (found : FindsColumn t (canonical
   module _ (v : TableSchema) (h : Holds table t v) where
     pub column-is : (c : Column) → r ≡ named.Is c → (m : Mark) → ((b : BoundColumnRef) → b .ty ≡ c .ty → b .nullable ≡ c .nullable → m ≡ columnMark b)
         → (k : ℕ) → ((b : BoundColumnRef) → length (b .name) ≡ c .«end» - c .start → k ≡ length (boundColumnRef .write b))
-        → marked.Is (run 1 k m) ≡ leafTold (columnLeaf (columnByName v (canonical n)))
+        → marked.Is (run (k + 11) m) ≡ leafTold (columnLeaf (columnByName v (canonical n)))
     column-is c p m f k g =
         let w = subst (ColumnIs t (columnByName v (canonical n))) p (found v h) in
-        rw (w .1) (ap₂ (λ (x : Mark) (y : ℕ). marked.Is (run 1 y x)) (f (w .0) (sym (w .2 .ty)) (sym (w .2 .nullable))) (g (w .0) (span-length (w .2 .name))))
+        rw (w .1) (ap₂ (λ (x : Mark) (y : ℕ). marked.Is (run (y + 11) x)) (f (w .0) (sym (w .2 .ty)) (sym (w .2 .nullable))) (g (w .0) (span-length (w .2 .name))))
 
     pub column-none : r ≡ named.Nothing → refusedWith SchemaMismatch ≡ leafTold (columnLeaf (columnByName v (canonical n)))
     column-none p = let w = subst (ColumnIs t (columnByName v (canonical n))) p (found v h) in rw w

@@ -1,5 +1,5 @@
 -- How large a bound expression is at most, where the names are within paper 01's limit: no sum of two sizes wraps, and the whole image's length
--- fits 4 bytes. A leaf holds at most 65,536 bytes, and a tree of n nodes has at most (n + 1) / 2 leaves.
+-- fits 4 bytes. A leaf holds at most 65,536 bytes, and a tree of n nodes has at most (n + 1) / 2 leaves: 11 n + 65536 (n + 1) / 2 bytes.
 -- Assumes nothing.
 use mathlib.Core.Path.{_≡_, _∙_, refl, sym, ap, subst}
 use mathlib.Core.Bool.{Bool, true, false, false≢true}
@@ -45,16 +45,17 @@ use Rattle.expression.specs.Trees.{root-size}
 use Rattle.expression.specs.Layout.{text-length}
 use Rattle.expression.specs.Laws.{is-image, has-content, some-node, every-node, placed}
 use Rattle.bound.specs.Expression.{boundExpression}
-use Rattle.bound.specs.Runs.{leafBytes, contentLength, run-length}
+use Rattle.bound.specs.Runs as runs
+use Rattle.bound.specs.Runs.{leafBytes, contentLength}
 use Rattle.bound.specs.Spelt as spelt
 use Rattle.marking.specs.declared.Measured.{Measured}
 use Rattle.marking.specs.declared.Marked.{Marked}
 use Rattle.marking.specs.declared.Marked.the-variants as marked
+use Rattle.marking.specs.Told.{bytesOf}
 use Rattle.marking.specs.Marks.{NamesWithin, Markable, Marks, marked-is}
 
-pub record Small (m : Measured) : Type 0 where
-  pub nodes : m .nodes < 65536
-  pub content : m .content ≤ 32768 * (m .nodes + 1)
+abbrev pub Small : Measured → Type 0
+Small m = m .size < 2 ^ 32
 
 fine-same : {A : Type 0} {a b : A} → fine a ≡ fine b → a ≡ b
 fine-same h = cc
@@ -141,28 +142,26 @@ leaf-small t Leaf.otherExpression d l e = absurd (never-fine e)
 -- ---- trees
 
 -- b is no larger than n nodes allow
-record Within (n : ℕ) (b : BoundExpr) : Type 0 where
-  nodes : size b ≤ n
-  content : contentLength b ≤ 32768 * (size b + 1)
+abbrev Within : ℕ → BoundExpr → Type 0
+Within n b = bytesOf b ≤ 32779 * n + 32768
 
 leaf-within : (n : ℕ) → 1 ≤ n → (u : Verdict (bound.Marked BoundLeaf)) → ((l : bound.Marked BoundLeaf) → u ≡ fine l → leafSize l ≤ 65536)
     → (b : BoundExpr) → (judged u >>= boundLeaf) ≡ given b → Within n b
-unfolding size contentLength
-leaf-within n h (fine l) s b e =
-    subst (Within n) (given-same e) (record { nodes = h; content = omega (arith, s l refl) })
+unfolding bytesOf
+leaf-within n h (fine l) s b e = subst (Within n) (given-same e) (omega (arith, s l refl))
 leaf-within n h (flaw k) s b e = absurd (never-given e)
 
 unary-within : (n : ℕ) (o : Unary) (m : Mark) (a : BoundExpr) → Within n a → Within (n + 1) (boundUnary o m a)
-unfolding boundUnary size contentLength
-unary-within n parentheses m a w = record { nodes = omega (arith, w .nodes); content = w .content }
-unary-within n (nullTest z) m a w = record { nodes = omega (arith, w .nodes); content = omega (arith, w .content) }
-unary-within n (unary o) m a w = record { nodes = omega (arith, w .nodes); content = omega (arith, w .content) }
-unary-within n otherUnary m a w = record { nodes = omega (arith, w .nodes); content = w .content }
+unfolding boundUnary bytesOf
+unary-within n parentheses m a w = omega arith
+unary-within n (nullTest z) m a w = omega arith
+unary-within n (unary o) m a w = omega arith
+unary-within n otherUnary m a w = omega arith
 
 binary-within : (k n : ℕ) (o : Binary) (m : Mark) (a b : BoundExpr) → Within k a → Within n b → Within (k + n + 1) (boundBinary o m a b)
-unfolding boundBinary size contentLength
-binary-within k n (binary o) m a b w z = record { nodes = omega (arith, w .nodes, z .nodes); content = omega (arith, w .content, z .content) }
-binary-within k n otherBinary m a b w z = record { nodes = omega (arith, w .nodes); content = w .content }
+unfolding boundBinary bytesOf
+binary-within k n (binary o) m a b w z = omega arith
+binary-within k n otherBinary m a b w z = omega arith
 
 module _ (t : TableSchema) (v : ℕ → Node) (count : ℕ) (short : (j : ℕ) → j < count → ShortNode (v j)) where
   within : (i : ℕ) → i < count → (x : Expr) → Root v i x → (b : BoundExpr) → bindExpression t x ≡ given b → Within (size x) b
@@ -197,8 +196,18 @@ small {t} {e} {i} b k s p =
     let x = every-node b (k .node .image) i (k .node .within) in
     let y = marked-is t e h i (x .tree) (x .root) s p in
     let w = within v (nodeAt e) (nodeCount e) (nodes-short b (k .names) (λ j l. record { image = k .node .image; within = l })) i (k .node .within) (x .tree) (x .root) (y .0) (y .1) in
-    subst Small (y .2)
-    (record { nodes = omega (arith, w .nodes, root-size (nodeAt e) i (x .tree) (x .root), few-nodes b, k .node .within); content = w .content }))
+    subst Small (y .2) (omega (arith, w, root-size (nodeAt e) i (x .tree) (x .root), few-nodes b, k .node .within)))
+
+-- ---- the whole image
+
+bytes-are : (e : BoundExpr) → 11 * size e + contentLength e ≡ bytesOf e
+unfolding size contentLength bytesOf
+bytes-are (leaf l) = omega arith
+bytes-are (un o a) = omega (arith, bytes-are a)
+bytes-are (bin o a b) = omega (arith, bytes-are a, bytes-are b)
+
+pub run-length : (e : BoundExpr) → length (boundExpression .write e) ≡ 4 + bytesOf e
+run-length e = omega (arith, runs.run-length e, bytes-are e)
 
 -- the image of what an expression is bound to has a length that fits 4 bytes
 pub short-run : {e : List ℕ} → Bytes e → NamesWithin e → {x : Expr} → Holds expression e x → (v : TableSchema) {y : BoundExpr} → bindExpression v x ≡ given y
@@ -208,4 +217,4 @@ short-run {e} b n {x} h v {y} q =
     let p = placed b h in
     let o = some-node b i in
     let w = within v (nodeAt e) (nodeCount e) (nodes-short b n (λ j l. record { image = i; within = l })) (nodeCount e - 1) (omega arith) x (p .0) y q in
-    omega (arith, run-length y, w .nodes, w .content, p .1, few-nodes b)
+    omega (arith, run-length y, w, p .1, few-nodes b)

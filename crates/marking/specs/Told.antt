@@ -3,7 +3,7 @@
 use mathlib.Core.Bool.{false}
 use Prim.Native.Nat.{ℕ, _+_}
 use lib.ListN.{length}
-use Rattle.tree.specs.Tree.{size}
+use Rattle.tree.specs.Tree.{leaf, un, bin}
 use Rattle.rules.specs.declared.Class.{Class}
 use Rattle.rules.specs.declared.ExpressionType.{ExpressionType}
 use Rattle.rules.specs.declared.ExpressionType.the-variants as type
@@ -17,19 +17,25 @@ use Rattle.rules.specs.Statements.{Unary, parentheses, nullTest, unary, otherUn
 use Rattle.operators.specs.declared.Ruling.{Ruling}
 use Rattle.operators.specs.declared.Ruling.the-variants as ruling
 use Rattle.bound.specs.Expression.{boundExpression}
-use Rattle.bound.specs.Runs.{leafBytes, contentLength}
+use Rattle.bound.specs.Runs.{leafBytes}
 use Rattle.marking.specs.declared.Measured.{Measured}
 use Rattle.marking.specs.declared.Marked.{Marked}
 use Rattle.marking.specs.declared.Marked.the-variants as marked
 use Rattle.marking.specs.declared.Sized.{Sized}
 use Rattle.marking.specs.declared.Sized.the-variants as sized
 
-abbrev pub run : ℕ → ℕ → Mark → Measured
-run n c m = record { mark = m; nodes = n; content = c }
+abbrev pub run : ℕ → Mark → Measured
+run n m = record { mark = m; size = n }
 
--- what a bound expression measures: the mark of its root, its nodes, and the bytes that its leaves hold
+-- the bytes that the nodes and what the leaves hold take in the bound image
+unfoldable pub bytesOf : BoundExpr → ℕ
+bytesOf (leaf l) = length (leafBytes (l .kind)) + 11
+bytesOf (un o a) = bytesOf a + 11
+bytesOf (bin o a b) = bytesOf a + bytesOf b + 11
+
+-- what a bound expression measures
 abbrev pub measured : BoundExpr → Measured
-measured b = run (size b) (contentLength b) (markOf b)
+measured b = run (bytesOf b) (markOf b)
 
 abbrev pub told : Answer Measured → Marked
 told (given m) = marked.Is m
@@ -38,19 +44,19 @@ told (refused r) = marked.Refused r
 abbrev pub refusedWith : Class → Marked
 refusedWith k = marked.Refused (record { class = k })
 
--- the rule at a node decides, where the run has n nodes and c bytes in its leaves
-abbrev pub verdictTold : ℕ → ℕ → Verdict Mark → Marked
-verdictTold n c (fine m) = marked.Is (run n c m)
-verdictTold n c (flaw k) = refusedWith k
+-- the rule at a node decides, where the run takes n bytes
+abbrev pub verdictTold : ℕ → Verdict Mark → Marked
+verdictTold n (fine m) = marked.Is (run n m)
+verdictTold n (flaw k) = refusedWith k
 
-abbrev pub ruled : ℕ → ℕ → Ruling → Marked
-ruled n c (ruling.Fine m) = marked.Is (run n c m)
-ruled n c (ruling.Flaw k) = refusedWith k
+abbrev pub ruled : ℕ → Ruling → Marked
+ruled n (ruling.Fine m) = marked.Is (run n m)
+ruled n (ruling.Flaw k) = refusedWith k
 
 -- ---- leaves
 
 abbrev pub leafTold : Verdict (bound.Marked BoundLeaf) → Marked
-leafTold (fine l) = marked.Is (run 1 (length (leafBytes (l .kind))) (l .mark))
+leafTold (fine l) = marked.Is (run (length (leafBytes (l .kind)) + 11) (l .mark))
 leafTold (flaw k) = refusedWith k
 
 -- the type that a literal has, and how long its text is
@@ -75,14 +81,14 @@ after (marked.Refused r) f = marked.Refused r
 
 -- a node over what it is bound to: one node more
 abbrev pub overOne : (Mark → Verdict Mark) → Measured → Marked
-overOne f m = verdictTold (m .nodes + 1) (m .content) (f (m .mark))
+overOne f m = verdictTold (m .size + 11) (f (m .mark))
 
 abbrev pub overTwo : (Mark → Mark → Verdict Mark) → Measured → Measured → Marked
-overTwo f a b = verdictTold (a .nodes + b .nodes + 1) (a .content + b .content) (f (a .mark) (b .mark))
+overTwo f a b = verdictTold (a .size + b .size + 11) (f (a .mark) (b .mark))
 
 -- IS NULL and IS NOT NULL are BOOL and never null
 abbrev pub nullTold : Measured → Marked
-nullTold m = marked.Is (run (m .nodes + 1) (m .content) (lookup.mark type.Bool false))
+nullTold m = marked.Is (run (m .size + 11) (lookup.mark type.Bool false))
 
 -- parentheses are as inside, with no node of their own
 unfoldable pub unaryTold : Unary → Measured → Marked

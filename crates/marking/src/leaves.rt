@@ -1,6 +1,7 @@
 // The leaves of a bound expression: each is one node, and holds a column or a literal.
 use crate::Marked;
 use crate::Measured;
+use crate::NODE;
 use bound::columns::column_ref_len;
 use bound::values::bool_len;
 use bound::values::int_len;
@@ -17,7 +18,7 @@ use rules::Mark;
 use rules::Refusal;
 use rulings::column_mark;
 ghost use mathlib.Core.Path.{_≡_};
-ghost use Prim.Native.Nat.{_<_, _≤_};
+ghost use Prim.Native.Nat.{_+_, _^_, _<_, _≤_};
 ghost use lib.ListN.{length};
 ghost use Rattle.expression.specs.Place.{nodeAt};
 ghost use Rattle.names.specs.Compared.{named};
@@ -42,19 +43,19 @@ pub fn refuse(class: Class) -> Marked
 
 // A leaf is one node.
 fn one_leaf(mark: Mark, content: usize) -> Marked
-    ensures { λ r. ⌜ r ≡ marked.Is (run 1 content mark) ⌝ }
+    requires { ⌜ content < 2 ^ 32 ⌝ }
+    ensures { λ r. ⌜ r ≡ marked.Is (run (content + 11) mark) ⌝ }
 {
     Marked::Is(Measured {
         mark,
-        nodes: 1,
-        content,
+        size: content + NODE,
     })
 }
 
 // The bytes that a literal of this type holds, where n are those of its text.
 fn literal_len(ty: ExpressionType, n: usize) -> usize
     requires { ⌜ n ≤ 65536 ⌝ }
-    ensures { λ r. ⌜ ((v : Value) → typeOf v ≡ ty → textOf v ≡ n → r ≡ length (value .write v)) ⌝ }
+    ensures { λ r. ⌜ (r < 2 ^ 32) × ((v : Value) → typeOf v ≡ ty → textOf v ≡ n → r ≡ length (value .write v)) ⌝ }
 {
     match ty {
         ExpressionType::Int => int_len(),

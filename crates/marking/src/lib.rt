@@ -4,7 +4,6 @@ mod leaves;
 mod nodes;
 
 use bound::fields::count_len;
-use bound::nodes::node_len;
 use expression::kind;
 use expression::span;
 use expression::text;
@@ -27,11 +26,14 @@ ghost use Rattle.marking.specs.Told.{measured};
 ghost use Rattle.marking.specs.Marks.{NamesWithin, Markable, Marks, Sizes};
 ghost use Rattle.marking.specs.Small.{Small};
 
-// What an expression is bound to: the mark of its root, how many nodes it has, and how many bytes its leaves hold.
+// The bytes of a node in the bound image, without what a leaf holds.
+const NODE: usize = 11;
+
+// What an expression is bound to: the mark of its root, and how many bytes its nodes and what its leaves hold take in the bound image. One
+// number, since an answer is copied at each return and only the sum is asked for.
 pub struct Measured {
     pub mark: rules::Mark,
-    pub nodes: usize,
-    pub content: usize,
+    pub size: usize,
 }
 
 pub enum Marked {
@@ -113,12 +115,12 @@ pub enum Sized {
     Refused(rules::Refusal),
 }
 
-// The length of the bound expression's image: how many nodes it has, the nodes, and what its leaves hold.
+// The length of the bound expression's image: how many nodes it has stands in front of them.
 fn run_len(m: Measured) -> usize
     requires { ⌜ Small m ⌝ }
     ensures { λ r. ⌜ ((b : BoundExpr) → measured b ≡ m → r ≡ length (boundExpression .write b)) ⌝ }
 {
-    count_len() + node_len() * m.nodes + m.content
+    count_len() + m.size
 }
 
 // The mark of an expression, whose root is its last node, and the length of what it is bound to.

@@ -1,10 +1,12 @@
 // Nodes with operands, by their kinds and what their operands are bound to.
 use crate::Marked;
 use crate::Measured;
+use crate::NODE;
 use crate::leaves::refuse;
 use expression::kind;
+use operators::Entry;
 use operators::Ruling;
-use operators::binary;
+use operators::result;
 use operators::unary;
 use rules::BoundBinaryOperator;
 use rules::BoundUnaryOperator;
@@ -21,15 +23,11 @@ ghost use Rattle.rules.specs.Statements as statements;
 ghost use Rattle.marking.specs.Told.{ruled, nullTold, overOne, overTwo};
 ghost use Rattle.marking.specs.Small.{Small};
 
-fn judge(v: Ruling, nodes: usize, content: usize) -> Marked
-    ensures { λ r. ⌜ r ≡ ruled nodes content v ⌝ }
+fn judge(v: Ruling, size: usize) -> Marked
+    ensures { λ r. ⌜ r ≡ ruled size v ⌝ }
 {
     match v {
-        Ruling::Fine(mark) => Marked::Is(Measured {
-            mark,
-            nodes,
-            content,
-        }),
+        Ruling::Fine(mark) => Marked::Is(Measured { mark, size }),
         Ruling::Flaw(class) => refuse(class),
     }
 }
@@ -54,8 +52,7 @@ pub fn null_test(m: Measured) -> Marked
             ty: ExpressionType::Bool,
             nullable: false,
         },
-        nodes: m.nodes + 1,
-        content: m.content,
+        size: m.size + NODE,
     })
 }
 
@@ -65,12 +62,11 @@ pub fn one_operand(k: u8, m: Measured) -> Marked
     ensures { λ r. ⌜ r ≡ overOne (unaryRule (unOf k)) m ⌝ }
 {
     let mark = m.mark;
-    let nodes = m.nodes + 1;
-    let content = m.content;
+    let size = m.size + NODE;
     match k {
-        12 => judge(unary(BoundUnaryOperator::Positive, mark), nodes, content),
-        13 => judge(unary(BoundUnaryOperator::Negative, mark), nodes, content),
-        14 => judge(unary(BoundUnaryOperator::Not, mark), nodes, content),
+        12 => judge(unary(BoundUnaryOperator::Positive, mark), size),
+        13 => judge(unary(BoundUnaryOperator::Negative, mark), size),
+        14 => judge(unary(BoundUnaryOperator::Not, mark), size),
         _ => refuse(Class::UnsupportedSql),
     }
 }
@@ -106,7 +102,18 @@ pub fn two_operands(k: u8, a: Measured, b: Measured) -> Marked
     }
     let left = a.mark;
     let right = b.mark;
-    let nodes = a.nodes + b.nodes + 1;
-    let content = a.content + b.content;
-    judge(binary(operator(k), left, right), nodes, content)
+    let size = a.size + b.size + NODE;
+    let x = left.ty;
+    let y = right.ty;
+    // the value may be null if either operand may
+    match result(operator(k), x, y) {
+        Entry::Type(ty) => Marked::Is(Measured {
+            mark: Mark {
+                ty,
+                nullable: left.nullable || right.nullable,
+            },
+            size,
+        }),
+        Entry::Flaw(class) => refuse(class),
+    }
 }

@@ -32,7 +32,11 @@ column-ref-len-requires c κs =
     omega (arith, l .1, s .pre .1)
 
 one-leaf-requires : tie.Need-one-leaf-requires
-one-leaf-requires c κs = search needs
+one-leaf-requires c κs =
+    let s = c .before .before .before .before .before .before .before .before .before in
+    let a = s .args in
+    let l = column-span (a .t .now) (named (a .quoted) (a .name .now)) _ (c .before .before .before .before .before .before .find-column .ensures) (s .pre .0) _ (c .before .before .before .before .c .given .1) in
+    omega (arith, c .column-ref-len .ensures .0, l .1, s .pre .1)
 
 enum-told : tie.Need-enum-told
 enum-told c = search needs

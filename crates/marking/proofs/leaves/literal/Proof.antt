@@ -1,7 +1,7 @@
 -- `leaves::literal` meets its contract.
 -- Assumes nothing.
 use mathlib.Core.Path.{_∙_, ap}
-use Prim.Native.Nat.{ℕ}
+use Prim.Native.Nat.{ℕ, _+_}
 use Rattle.rules.specs.Lookup as lookup
 use Rattle.marking.specs.declared.Marked.the-variants as marked
 use Rattle.marking.specs.Told.{run}
@@ -18,7 +18,7 @@ one-leaf-requires c κs = search needs
 returns : tie.Need-returns
 returns c v h q =
     let a = c .before .before .args in
-    c .one-leaf .ensures ∙ ap (λ (k : ℕ). marked.Is (run 1 k (lookup.mark (a .ty) (a .nullable)))) (c .before .literal-len .ensures v h q)
+    c .one-leaf .ensures ∙ ap (λ (k : ℕ). marked.Is (run (k + 11) (lookup.mark (a .ty) (a .nullable)))) (c .before .literal-len .ensures .1 v h q)
 
 pub literal-spec : {M : Type 1} → statement M
 literal-spec = tie.close (tie.spec literal-len-requires one-leaf-requires returns)

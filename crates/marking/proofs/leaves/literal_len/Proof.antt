@@ -1,5 +1,6 @@
 -- `leaves::literal_len` meets its contract: in each arm the type is known.
 -- Assumes nothing.
+use native.Mathlib.Omega.{arith}
 use Rattle.marking.proofs.Looked.{literal-length}
 use borrow.Author.Needs.{needs}
 use Rattle.marking.proofs.leaves.literal_len.Statement.{statement}
@@ -31,19 +32,19 @@ null-len-requires c κs = search needs
 
 returns : tie.Need-returns
 returns c = let a = c .before .before .before .args in
-    literal-length {ty = a .ty} {n = a .n} _ (rw (c .before .enum-told .given .1) (c .int-len .ensures .1))
+    (omega (arith, c .int-len .ensures .0), literal-length {ty = a .ty} {n = a .n} _ (rw (c .before .enum-told .given .1) (c .int-len .ensures .1)))
 
 returns-2 : tie.Need-returns-2
 returns-2 c = let a = c .before .before .before .args in
-    literal-length {ty = a .ty} {n = a .n} _ (rw (c .before .enum-told2 .given .1) (c .text-len .ensures .1))
+    (omega (arith, c .text-len .ensures .0), literal-length {ty = a .ty} {n = a .n} _ (rw (c .before .enum-told2 .given .1) (c .text-len .ensures .1)))
 
 returns-3 : tie.Need-returns-3
 returns-3 c = let a = c .before .before .before .args in
-    literal-length {ty = a .ty} {n = a .n} _ (rw (c .before .enum-told3 .given .1) (c .bool-len .ensures .1))
+    (omega (arith, c .bool-len .ensures .0), literal-length {ty = a .ty} {n = a .n} _ (rw (c .before .enum-told3 .given .1) (c .bool-len .ensures .1)))
 
 returns-4 : tie.Need-returns-4
 returns-4 c = let a = c .before .before .before .args in
-    literal-length {ty = a .ty} {n = a .n} _ (rw (c .before .enum-told4 .given .1) (c .null-len .ensures .1))
+    (omega (arith, c .null-len .ensures .0), literal-length {ty = a .ty} {n = a .n} _ (rw (c .before .enum-told4 .given .1) (c .null-len .ensures .1)))
 
 pub literal-len-spec : {M : Type 1} → statement M
 literal-len-spec =

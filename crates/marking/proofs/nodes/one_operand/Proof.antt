@@ -12,8 +12,8 @@ use borrow.Author.Needs.{needs}
 use Rattle.marking.proofs.nodes.one_operand.Statement.{statement}
 use Rattle.marking.proofs.nodes.one_operand.Tie as tie
 
-add-nodes : tie.Need-add-nodes
-add-nodes c = search needs
+add-size : tie.Need-add-size
+add-size c = search needs
 
 unary-requires : tie.Need-unary-requires
 unary-requires c κs = search needs
@@ -40,19 +40,19 @@ returns : tie.Need-returns
 unfolding unOf
 returns c =
     let m = c .before .before .before .before .before .args .m in
-    c .judge .ensures ∙ rw (c .before .unary .ensures, c .before .before .match .keys1) (ruled-told (m .nodes + 1) (m .content) (unaryRule (unary Positive) (m .mark)))
+    c .judge .ensures ∙ rw (c .before .unary .ensures, c .before .before .match .keys1) (ruled-told (m .size + 11) (unaryRule (unary Positive) (m .mark)))
 
 returns-2 : tie.Need-returns-2
 unfolding unOf
 returns-2 c =
     let m = c .before .before .before .before .before .args .m in
-    c .judge2 .ensures ∙ rw (c .before .unary2 .ensures, c .before .before .match .keys2) (ruled-told (m .nodes + 1) (m .content) (unaryRule (unary Negative) (m .mark)))
+    c .judge2 .ensures ∙ rw (c .before .unary2 .ensures, c .before .before .match .keys2) (ruled-told (m .size + 11) (unaryRule (unary Negative) (m .mark)))
 
 returns-3 : tie.Need-returns-3
 unfolding unOf
 returns-3 c =
     let m = c .before .before .before .before .before .args .m in
-    c .judge3 .ensures ∙ rw (c .before .unary3 .ensures, c .before .before .match .keys3) (ruled-told (m .nodes + 1) (m .content) (unaryRule (unary Not) (m .mark)))
+    c .judge3 .ensures ∙ rw (c .before .unary3 .ensures, c .before .before .match .keys3) (ruled-told (m .size + 11) (unaryRule (unary Not) (m .mark)))
 
 returns-4 : tie.Need-returns-4
 unfolding unOf unaryRule
@@ -62,7 +62,7 @@ pub one-operand-spec : {M : Type 1} → statement M
 one-operand-spec =
     tie.close
     (tie.spec
-    add-nodes
+    add-size
     unary-requires
     judge-requires
     unary-requires-2

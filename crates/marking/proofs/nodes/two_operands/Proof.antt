@@ -1,10 +1,11 @@
 -- `nodes::two_operands` meets its contract.
 -- Assumes nothing.
 use mathlib.Core.Path.{_∙_}
+use mathlib.Core.Bool.{true, _||_}
 use Prim.Native.Nat.{_+_}
-use Rattle.rules.specs.Marking.{binaryRule}
+use Rattle.rules.specs.Marking.{operatorRule, binaryRule}
 use Rattle.expression.specs.Place.{binOf}
-use Rattle.marking.proofs.Told.{ruled-told}
+use Rattle.marking.proofs.Told.{typed-told, flaw-told}
 use borrow.Author.Needs.{needs}
 use Rattle.marking.proofs.nodes.two_operands.Statement.{statement}
 use Rattle.marking.proofs.nodes.two_operands.Tie as tie
@@ -16,31 +17,67 @@ returns : tie.Need-returns
 unfolding binOf binaryRule
 returns c = c .refuse .ensures ∙ rw (c .before .if1 .taken)
 
-add-nodes : tie.Need-add-nodes
-add-nodes c = search needs
+add-size : tie.Need-add-size
+add-size c = search needs
 
-add-nodes-2 : tie.Need-add-nodes-2
-add-nodes-2 c = search needs
-
-add-content : tie.Need-add-content
-add-content c = search needs
+add-size-2 : tie.Need-add-size-2
+add-size-2 c = search needs
 
 operator-requires : tie.Need-operator-requires
 operator-requires c κs = search needs
 
-binary-requires : tie.Need-binary-requires
-binary-requires c κs = search needs
+result-requires : tie.Need-result-requires
+result-requires c κs = search needs
 
-judge-requires : tie.Need-judge-requires
-judge-requires c κs = search needs
+enum-known-ty : tie.Need-enum-known-ty
+enum-known-ty c = search needs
+
+enum-known-class : tie.Need-enum-known-class
+enum-known-class c = search needs
+
+refuse-requires-2 : tie.Need-refuse-requires-2
+refuse-requires-2 c κs = search needs
 
 returns-2 : tie.Need-returns-2
+unfolding binaryRule
 returns-2 c =
-    let a = c .before .before .before .before .before .before .before .before .before .before .args in
-    c .judge .ensures ∙ rw (c .before .binary .ensures, c .before .before .operator .ensures)
-    (ruled-told (a .a .nodes + a .b .nodes + 1) (a .a .content + a .b .content) (binaryRule (binOf (a .k)) (a .a .mark) (a .b .mark)))
+    let d = c .before .before in
+    let o = d .before .before .before .operator in
+    let a = d .before .before .before .before .before .before .before .args in
+    rw (← o .ensures, c .if2 .taken)
+    (typed-told (a .a .size + a .b .size + 11) (operatorRule (o .result) (a .a .mark .ty) (a .b .mark .ty)) true (d .ty .given .1) (d .before .before .result .ensures))
+
+returns-3 : tie.Need-returns-3
+unfolding binaryRule
+returns-3 c =
+    let d = c .before .before in
+    let o = d .before .before .before .operator in
+    let a = d .before .before .before .before .before .before .before .args in
+    rw (← o .ensures, c .if2 .left)
+    (typed-told (a .a .size + a .b .size + 11) (operatorRule (o .result) (a .a .mark .ty) (a .b .mark .ty)) (a .b .mark .nullable) (d .ty .given .1) (d .before .before .result .ensures))
+
+returns-4 : tie.Need-returns-4
+unfolding binaryRule
+returns-4 c =
+    let d = c .before .before in
+    let o = d .before .before .before .operator in
+    let a = d .before .before .before .before .before .before .before .args in
+    c .refuse2 .ensures ∙ rw (← o .ensures)
+    (flaw-told (a .a .size + a .b .size + 11) (operatorRule (o .result) (a .a .mark .ty) (a .b .mark .ty)) (a .a .mark .nullable || a .b .mark .nullable) (d .class .given .1) (d .before .before .result .ensures))
 
 pub two-operands-spec : {M : Type 1} → statement M
 two-operands-spec =
     tie.close
-    (tie.spec refuse-requires returns add-nodes add-nodes-2 add-content operator-requires binary-requires judge-requires returns-2)
+    (tie.spec
+    refuse-requires
+    returns
+    add-size
+    add-size-2
+    operator-requires
+    result-requires
+    enum-known-ty
+    enum-known-class
+    refuse-requires-2
+    returns-2
+    returns-3
+    returns-4)
