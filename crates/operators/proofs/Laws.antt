@@ -1,30 +1,14 @@
 -- What a rule's verdict tells, by the case that it is.
 -- Assumes nothing.
 use mathlib.Core.Path.{_≡_, refl}
-use mathlib.Core.Bool.{Bool}
 use lib.Dec.{eqb}
-use Rattle.rules.specs.declared.Class.{Class}
 use Rattle.rules.specs.declared.Class.the-variants.{SchemaMismatch, ConstraintViolation, UnsupportedSql, InvalidArgument}
 use Rattle.rules.specs.declared.ExpressionType.{ExpressionType}
 use Rattle.rules.specs.declared.ExpressionType.the-variants as type
 use Rattle.rules.specs.Answers.{Verdict, fine, flaw}
-use Rattle.rules.specs.Lookup.{mark}
-use Rattle.rules.specs.Marking.{is, typeNo, typed}
-use Rattle.operators.specs.declared.Entry.{Entry}
-use Rattle.operators.specs.declared.Entry.the-variants as entry
-use Rattle.operators.specs.declared.Ruling.the-variants as ruling
-use Rattle.operators.specs.Told.{told, toldMark}
+use Rattle.rules.specs.Marking.{is, typeNo}
+use Rattle.operators.specs.Told.{told}
 use Rattle.operators.specs.Codes.{codeOf, decoded}
-
-pub told-type : (v : Verdict ExpressionType) (n : Bool) {e : Entry} {t : ExpressionType} → e ≡ entry.Type t → e ≡ told v
-    → ruling.Fine (mark t n) ≡ toldMark (typed v n)
-told-type (fine u) n p q = cc
-told-type (flaw k) n p q = cc
-
-pub told-flaw : (v : Verdict ExpressionType) (n : Bool) {e : Entry} {k : Class} → e ≡ entry.Flaw k → e ≡ told v
-    → ruling.Flaw k ≡ toldMark (typed v n)
-told-flaw (fine u) n p q = cc
-told-flaw (flaw h) n p q = cc
 
 -- the number of a verdict is read back as the verdict
 pub read-back : (v : Verdict ExpressionType) → decoded (codeOf v) ≡ told v

@@ -5,7 +5,7 @@ ghost use Rattle.rules.specs.Statements as statements;
 ghost use mathlib.Core.Bool.{false};
 ghost use Rattle.rules.specs.declared.ExpressionType.the-variants as type;
 ghost use Rattle.rules.specs.Lookup.{mark};
-ghost use Rattle.rules.specs.Marking.{is, typeNo, operatorNo, operatorRule, operandOf, unaryRule, binaryRule};
+ghost use Rattle.rules.specs.Marking.{is, typeNo, operatorNo, operatorRule, operandOf, unaryRule};
 ghost use Rattle.operators.specs.Told.{told, toldMark};
 ghost use Rattle.operators.specs.Codes.{codeOf, decoded};
 use rules::BoundBinaryOperator;
@@ -107,21 +107,6 @@ pub fn result(o: BoundBinaryOperator, left: ExpressionType, right: ExpressionTyp
     ensures { λ r. ⌜ r ≡ told (operatorRule o left right) ⌝ }
 {
     decode(code(o, left, right))
-}
-
-// The value may be null if either operand may.
-pub fn binary(o: BoundBinaryOperator, left: Mark, right: Mark) -> Ruling
-    ensures { λ r. ⌜ r ≡ toldMark (binaryRule (statements.binary o) left right) ⌝ }
-{
-    let a = left.ty;
-    let b = right.ty;
-    match result(o, a, b) {
-        Entry::Type(ty) => Ruling::Fine(Mark {
-            ty,
-            nullable: left.nullable || right.nullable,
-        }),
-        Entry::Flaw(class) => Ruling::Flaw(class),
-    }
 }
 
 pub fn same_type(a: ExpressionType, b: ExpressionType) -> bool
