@@ -1,4 +1,5 @@
 pub mod Gathered
 pub mod Within
+pub mod Kinds
 pub mod Lists
 pub mod Cases

@@ -1,8 +1,10 @@
 // The top sizes of a statement (paper 01, refusal 7). Every part is looked at through its accessors; no byte position is known here.
 mod creates;
 mod deletes;
+mod entries;
 mod expressions;
 mod inserts;
+mod leaves;
 mod names;
 mod selects;
 mod updates;

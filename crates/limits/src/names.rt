@@ -2,15 +2,12 @@
 use statement::names;
 use statement::table;
 ghost use mathlib.Core.Path.{_≡_};
-ghost use mathlib.Core.List.{List};
-ghost use Rattle.codec.specs.Layout.{listOf};
 ghost use Rattle.bundle.specs.Held.{Is, Holds};
 ghost use Rattle.expression.specs.Names.{Within};
 ghost use Rattle.rules.specs.Lists.{all};
 ghost use Rattle.rules.specs.Statements.{Name, ObjectName, Relation, TableWithJoins};
 ghost use Rattle.rules.specs.Limits.{objectNames, relationNames, tableNames};
 ghost use Rattle.statement.specs.Layout.{name, objectName, relation, tableWithJoins};
-ghost use Rattle.limits.specs.Within.{listWithin};
 
 pub fn is_name_within(n: &[u8]) -> bool
     requires { ⌜ Is name (now n) ⌝ }
@@ -18,27 +15,6 @@ pub fn is_name_within(n: &[u8]) -> bool
 {
     let text = names::name_text(n);
     text.len() <= 128
-}
-
-pub fn are_names_within(s: &[u8]) -> bool
-    requires { ⌜ Is (listOf 2 name) (now s) ⌝ }
-    ensures { λ r. ⌜ ((vs : List Name) → Holds (listOf 2 name) (now (s .entry)) vs → r ≡ listWithin 64 Within vs) ⌝ }
-{
-    let n = bundle::parts(s, 2);
-    if 64 < n {
-        return false;
-    }
-    let mut at = bundle::first(s, 2);
-    let mut i = 0;
-    while i < n {
-        let end = bundle::next(s, 2, i, at);
-        if !is_name_within(&s[at..end]) {
-            return false;
-        }
-        at = end;
-        i += 1;
-    }
-    true
 }
 
 pub fn is_object_name_within(o: &[u8]) -> bool

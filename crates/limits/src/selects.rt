@@ -1,48 +1,15 @@
 // A query: the table, the items and the condition of a plain SELECT.
+use crate::entries::Lists;
+use crate::entries::are_entries_within;
 use crate::expressions::is_condition_within;
-use crate::names::is_name_within;
 use crate::names::is_table_within;
 ghost use mathlib.Core.Path.{_≡_};
-ghost use mathlib.Core.List.{List};
-ghost use Rattle.codec.specs.Layout.{listOf};
 ghost use Rattle.bundle.specs.Held.{Is, Holds};
 ghost use Rattle.expression.specs.Names.{Within};
 ghost use Rattle.rules.specs.Lists.{all};
-ghost use Rattle.rules.specs.Statements.{Item, From, Select, QueryBody, Query};
+ghost use Rattle.rules.specs.Statements.{From, Select, QueryBody, Query};
 ghost use Rattle.rules.specs.Limits.{fromNames, heldBySelect, heldByBody, heldWithin};
-ghost use Rattle.statement.specs.Layout.{item, selectFrom, select, queryBody, selection};
-ghost use Rattle.limits.specs.Within.{listWithin, itemWithin};
-
-fn is_item_within(i: &[u8]) -> bool
-    requires { ⌜ Is item (now i) ⌝ }
-    ensures { λ r. ⌜ ((v : Item) → Holds item (now (i .entry)) v → r ≡ itemWithin v) ⌝ }
-{
-    if select::item_code(i) != 2 {
-        return true;
-    }
-    is_name_within(select::column_of(i))
-}
-
-fn are_items_within(s: &[u8]) -> bool
-    requires { ⌜ Is (listOf 2 item) (now s) ⌝ }
-    ensures { λ r. ⌜ ((vs : List Item) → Holds (listOf 2 item) (now (s .entry)) vs → r ≡ listWithin 64 itemWithin vs) ⌝ }
-{
-    let n = bundle::parts(s, 2);
-    if 64 < n {
-        return false;
-    }
-    let mut at = bundle::first(s, 2);
-    let mut i = 0;
-    while i < n {
-        let end = bundle::next(s, 2, i, at);
-        if !is_item_within(&s[at..end]) {
-            return false;
-        }
-        at = end;
-        i += 1;
-    }
-    true
-}
+ghost use Rattle.statement.specs.Layout.{selectFrom, select, queryBody, selection};
 
 fn is_from_within(f: &[u8]) -> bool
     requires { ⌜ Is selectFrom (now f) ⌝ }
@@ -61,7 +28,7 @@ fn is_select_within(s: &[u8]) -> bool
     if !is_from_within(select::from_of(s)) {
         return false;
     }
-    if !are_items_within(select::items_of(s)) {
+    if !are_entries_within(select::items_of(s), Lists::Items, 64) {
         return false;
     }
     is_condition_within(select::condition_of(s))

@@ -26,14 +26,14 @@ told-1 c v h = c .is-object-name-within .ensures (v .name) (c .before .table-nam
 left-1 : (c : tie.Else1) (v : CreateTable) → Holds create (c .before .before .before .before .args .c .now) v → Left 1 v
 left-1 c v h = on (create-within v) (passed (told-1 (c .before) v h) (c .if1 .left))
 
-told-2 : (c : tie.After-are-columns-within) (v : CreateTable) → Holds create (c .before .before .before .before .before .before .args .c .now) v → c .are-columns-within .result ≡ listWithin 64 columnWithin (v .columns)
-told-2 c v h = c .are-columns-within .ensures (v .columns) (c .before .columns .ensures v h)
+told-2 : (c : tie.After-are-entries-within) (v : CreateTable) → Holds create (c .before .before .before .before .before .before .args .c .now) v → c .are-entries-within .result ≡ listWithin 64 columnWithin (v .columns)
+told-2 c v h = c .are-entries-within .ensures (v .columns) (c .before .columns .ensures v h)
 
 left-2 : (c : tie.Else2) (v : CreateTable) → Holds create (c .before .before .before .before .before .before .before .args .c .now) v → Left 2 v
 left-2 c v h = on (left-1 (c .before .before .before) v h) (passed (told-2 (c .before) v h) (c .if2 .left))
 
-told-3 : (c : tie.After-are-constraints-within) (v : CreateTable) → Holds create (c .before .before .before .before .before .before .before .before .before .args .c .now) v → c .are-constraints-within .result ≡ listWithin 64 constraintWithin (v .constraints)
-told-3 c v h = c .are-constraints-within .ensures (v .constraints) (c .before .constraints .ensures v h)
+told-3 : (c : tie.After-are-entries-within2) (v : CreateTable) → Holds create (c .before .before .before .before .before .before .before .before .before .args .c .now) v → c .are-entries-within2 .result ≡ listWithin 64 constraintWithin (v .constraints)
+told-3 c v h = c .are-entries-within2 .ensures (v .constraints) (c .before .constraints .ensures v h)
 
 table-name-requires : tie.Need-table-name-requires
 table-name-requires c κs = search needs
@@ -47,8 +47,8 @@ returns c = λ v h. stop (create-within v) (failed (told-1 (c .before) v h) (c .
 columns-requires : tie.Need-columns-requires
 columns-requires c κs = search needs
 
-are-columns-within-requires : tie.Need-are-columns-within-requires
-are-columns-within-requires c κs = held (c .before .before .before .before .before .pre) (λ v h. is-held {f = listOf 2 columnDefinition} (c .columns .ensures v h))
+are-entries-within-requires : tie.Need-are-entries-within-requires
+are-entries-within-requires c κs = held (c .before .before .before .before .before .pre) (λ v h. is-held {f = listOf 2 columnDefinition} (c .columns .ensures v h))
 
 returns-2 : tie.Need-returns-2
 returns-2 c = λ v h. stop (left-1 (c .before .before .before) v h) (failed (told-2 (c .before) v h) (c .if2 .taken))
@@ -56,8 +56,8 @@ returns-2 c = λ v h. stop (left-1 (c .before .before .before) v h) (failed (tol
 constraints-requires : tie.Need-constraints-requires
 constraints-requires c κs = search needs
 
-are-constraints-within-requires : tie.Need-are-constraints-within-requires
-are-constraints-within-requires c κs = held (c .before .before .before .before .before .before .before .before .pre) (λ v h. is-held {f = listOf 2 constraint} (c .constraints .ensures v h))
+are-entries-within-requires-2 : tie.Need-are-entries-within-requires-2
+are-entries-within-requires-2 c κs = held (c .before .before .before .before .before .before .before .before .pre) (λ v h. is-held {f = listOf 2 constraint} (c .constraints .ensures v h))
 
 returns-3 : tie.Need-returns-3
 returns-3 c = λ v h. last (left-2 (c .before .before) v h) (told-3 c v h)
@@ -70,8 +70,8 @@ is-create-within-spec =
     is-object-name-within-requires
     returns
     columns-requires
-    are-columns-within-requires
+    are-entries-within-requires
     returns-2
     constraints-requires
-    are-constraints-within-requires
+    are-entries-within-requires-2
     returns-3)

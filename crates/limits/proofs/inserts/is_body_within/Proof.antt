@@ -26,11 +26,11 @@ returns c = λ v h. sym (ap (listWithin 1024 rowWithin) (no-values v (failed (c 
 rows-of-requires : tie.Need-rows-of-requires
 rows-of-requires c κs = record { there = c .before .before .before .pre .there; case = λ v h. passed (c .before .is-values .ensures v h) (c .if1 .left) }
 
-are-rows-within-requires : tie.Need-are-rows-within-requires
-are-rows-within-requires c κs = inside-is (inner c) (c .before .before .before .before .pre)
+are-entries-within-requires : tie.Need-are-entries-within-requires
+are-entries-within-requires c κs = inside-is (inner c) (c .before .before .before .before .pre)
 
 returns-2 : tie.Need-returns-2
-returns-2 c = inside-says (inner (c .before)) (listWithin 1024 rowWithin) (c .are-rows-within .ensures)
+returns-2 c = inside-says (inner (c .before)) (listWithin 1024 rowWithin) (c .are-entries-within .ensures)
 
 pub is-body-within-spec : {M : Type 1} → statement M
 is-body-within-spec =
@@ -39,5 +39,5 @@ is-body-within-spec =
     is-values-requires
     returns
     rows-of-requires
-    are-rows-within-requires
+    are-entries-within-requires
     returns-2)

@@ -26,8 +26,8 @@ told-1 c v h = c .is-object-name-within .ensures (v .name) (c .before .table-nam
 left-1 : (c : tie.Else1) (v : Insert) → Holds insertion (c .before .before .before .before .args .i .now) v → Left 1 v
 left-1 c v h = on (insert-within v) (passed (told-1 (c .before) v h) (c .if1 .left))
 
-told-2 : (c : tie.After-are-names-within) (v : Insert) → Holds insertion (c .before .before .before .before .before .before .args .i .now) v → c .are-names-within .result ≡ listWithin 64 Within (v .columns)
-told-2 c v h = c .are-names-within .ensures (v .columns) (c .before .columns .ensures v h)
+told-2 : (c : tie.After-are-leaves-within) (v : Insert) → Holds insertion (c .before .before .before .before .before .before .args .i .now) v → c .are-leaves-within .result ≡ listWithin 64 Within (v .columns)
+told-2 c v h = c .are-leaves-within .ensures (v .columns) (c .before .columns .ensures v h)
 
 left-2 : (c : tie.Else2) (v : Insert) → Holds insertion (c .before .before .before .before .before .before .before .args .i .now) v → Left 2 v
 left-2 c v h = on (left-1 (c .before .before .before) v h) (passed (told-2 (c .before) v h) (c .if2 .left))
@@ -47,8 +47,8 @@ returns c = λ v h. stop (insert-within v) (failed (told-1 (c .before) v h) (c .
 columns-requires : tie.Need-columns-requires
 columns-requires c κs = search needs
 
-are-names-within-requires : tie.Need-are-names-within-requires
-are-names-within-requires c κs = held (c .before .before .before .before .before .pre) (λ v h. is-held {f = listOf 2 name} (c .columns .ensures v h))
+are-leaves-within-requires : tie.Need-are-leaves-within-requires
+are-leaves-within-requires c κs = held (c .before .before .before .before .before .pre) (λ v h. is-held {f = listOf 2 name} (c .columns .ensures v h))
 
 returns-2 : tie.Need-returns-2
 returns-2 c = λ v h. stop (left-1 (c .before .before .before) v h) (failed (told-2 (c .before) v h) (c .if2 .taken))
@@ -67,7 +67,7 @@ is-insert-within-spec =
     is-object-name-within-requires
     returns
     columns-requires
-    are-names-within-requires
+    are-leaves-within-requires
     returns-2
     is-source-within-requires
     returns-3)

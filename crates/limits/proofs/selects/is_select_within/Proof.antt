@@ -26,8 +26,8 @@ told-1 c v h = c .is-from-within .ensures (v .from) (c .before .from-of .ensures
 left-1 : (c : tie.Else1) (v : Select) → Holds select (c .before .before .before .before .args .s .now) v → Left 1 v
 left-1 c v h = on (select-within v) (passed (told-1 (c .before) v h) (c .if1 .left))
 
-told-2 : (c : tie.After-are-items-within) (v : Select) → Holds select (c .before .before .before .before .before .before .args .s .now) v → c .are-items-within .result ≡ listWithin 64 itemWithin (v .items)
-told-2 c v h = c .are-items-within .ensures (v .items) (c .before .items-of .ensures v h)
+told-2 : (c : tie.After-are-entries-within) (v : Select) → Holds select (c .before .before .before .before .before .before .args .s .now) v → c .are-entries-within .result ≡ listWithin 64 itemWithin (v .items)
+told-2 c v h = c .are-entries-within .ensures (v .items) (c .before .items-of .ensures v h)
 
 left-2 : (c : tie.Else2) (v : Select) → Holds select (c .before .before .before .before .before .before .before .args .s .now) v → Left 2 v
 left-2 c v h = on (left-1 (c .before .before .before) v h) (passed (told-2 (c .before) v h) (c .if2 .left))
@@ -47,8 +47,8 @@ returns c = λ v h. stop (select-within v) (failed (told-1 (c .before) v h) (c .
 items-of-requires : tie.Need-items-of-requires
 items-of-requires c κs = search needs
 
-are-items-within-requires : tie.Need-are-items-within-requires
-are-items-within-requires c κs = held (c .before .before .before .before .before .pre) (λ v h. is-held {f = listOf 2 item} (c .items-of .ensures v h))
+are-entries-within-requires : tie.Need-are-entries-within-requires
+are-entries-within-requires c κs = held (c .before .before .before .before .before .pre) (λ v h. is-held {f = listOf 2 item} (c .items-of .ensures v h))
 
 returns-2 : tie.Need-returns-2
 returns-2 c = λ v h. stop (left-1 (c .before .before .before) v h) (failed (told-2 (c .before) v h) (c .if2 .taken))
@@ -70,7 +70,7 @@ is-select-within-spec =
     is-from-within-requires
     returns
     items-of-requires
-    are-items-within-requires
+    are-entries-within-requires
     returns-2
     condition-of-requires
     is-condition-within-requires

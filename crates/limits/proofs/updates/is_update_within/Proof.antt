@@ -26,8 +26,8 @@ told-1 c v h = c .is-table-within .ensures (v .table) (c .before .table-of .ensu
 left-1 : (c : tie.Else1) (v : Update) → Holds updating (c .before .before .before .before .args .u .now) v → Left 1 v
 left-1 c v h = on (update-within v) (passed (told-1 (c .before) v h) (c .if1 .left))
 
-told-2 : (c : tie.After-are-assignments-within) (v : Update) → Holds updating (c .before .before .before .before .before .before .args .u .now) v → c .are-assignments-within .result ≡ listWithin 64 assignmentWithin (v .assignments)
-told-2 c v h = c .are-assignments-within .ensures (v .assignments) (c .before .assignments .ensures v h)
+told-2 : (c : tie.After-are-entries-within) (v : Update) → Holds updating (c .before .before .before .before .before .before .args .u .now) v → c .are-entries-within .result ≡ listWithin 64 assignmentWithin (v .assignments)
+told-2 c v h = c .are-entries-within .ensures (v .assignments) (c .before .assignments .ensures v h)
 
 left-2 : (c : tie.Else2) (v : Update) → Holds updating (c .before .before .before .before .before .before .before .args .u .now) v → Left 2 v
 left-2 c v h = on (left-1 (c .before .before .before) v h) (passed (told-2 (c .before) v h) (c .if2 .left))
@@ -47,8 +47,8 @@ returns c = λ v h. stop (update-within v) (failed (told-1 (c .before) v h) (c .
 assignments-requires : tie.Need-assignments-requires
 assignments-requires c κs = search needs
 
-are-assignments-within-requires : tie.Need-are-assignments-within-requires
-are-assignments-within-requires c κs = held (c .before .before .before .before .before .pre) (λ v h. is-held {f = listOf 2 assignment} (c .assignments .ensures v h))
+are-entries-within-requires : tie.Need-are-entries-within-requires
+are-entries-within-requires c κs = held (c .before .before .before .before .before .pre) (λ v h. is-held {f = listOf 2 assignment} (c .assignments .ensures v h))
 
 returns-2 : tie.Need-returns-2
 returns-2 c = λ v h. stop (left-1 (c .before .before .before) v h) (failed (told-2 (c .before) v h) (c .if2 .taken))
@@ -70,7 +70,7 @@ is-update-within-spec =
     is-table-within-requires
     returns
     assignments-requires
-    are-assignments-within-requires
+    are-entries-within-requires
     returns-2
     condition-of-requires
     is-condition-within-requires

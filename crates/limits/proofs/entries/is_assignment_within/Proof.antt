@@ -1,4 +1,4 @@
--- `limits::updates::is_assignment_within` meets its contract. Behind each test, those that are left decide.
+-- `limits::entries::is_assignment_within` meets its contract. Behind each test, those that are left decide.
 -- Assumes nothing.
 use Prim.Native.Nat.{ℕ}
 use Rattle.bundle.specs.Decides.{Decides, stop, on, last, failed, passed}
@@ -13,8 +13,8 @@ use Rattle.statement.specs.Layout.{assignmentTarget, assignment}
 use borrow.Author.Needs.{needs}
 use lib.ListN.{drop}
 use mathlib.Core.Path.{_≡_}
-use Rattle.limits.proofs.updates.is_assignment_within.Statement.{statement}
-use Rattle.limits.proofs.updates.is_assignment_within.Tie as tie
+use Rattle.limits.proofs.entries.is_assignment_within.Statement.{statement}
+use Rattle.limits.proofs.entries.is_assignment_within.Tie as tie
 
 -- the tests but the first k
 abbrev Left : ℕ → Assignment → Type 0

@@ -1,4 +1,4 @@
--- `limits::selects::is_item_within` meets its contract.
+-- `limits::entries::is_item_within` meets its contract.
 -- Assumes nothing.
 use Rattle.limits.specs.Within.{itemWithin}
 use Rattle.bundle.specs.Looks.{Inside, inside-is, inside-says}
@@ -11,8 +11,8 @@ use borrow.Author.Needs.{needs}
 use mathlib.Core.Bool.{and-true}
 use mathlib.Core.List.{[], _∷_}
 use mathlib.Core.Path.{sym, ap, _∙_}
-use Rattle.limits.proofs.selects.is_item_within.Statement.{statement}
-use Rattle.limits.proofs.selects.is_item_within.Tie as tie
+use Rattle.limits.proofs.entries.is_item_within.Statement.{statement}
+use Rattle.limits.proofs.entries.is_item_within.Tie as tie
 
 inner : (c : tie.After-column-of) → Inside item name itemNames (λ n. n ∷ []) (c .before .before .before .before .args .i .now) (c .column-of .result .now)
 inner c = column-inside (λ v h. sym (c .before .before .item-code .ensures v h) ∙ c .before .if1 .left) (c .column-of .ensures)

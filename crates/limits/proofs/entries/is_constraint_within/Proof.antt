@@ -1,4 +1,4 @@
--- `limits::creates::is_constraint_within` meets its contract.
+-- `limits::entries::is_constraint_within` meets its contract.
 -- Assumes nothing.
 use Rattle.bundle.specs.Decides.{failed, passed}
 use Rattle.bundle.specs.Looks.{Inside, inside-is, inside-says}
@@ -10,8 +10,8 @@ use Rattle.statement.specs.Layout.{name, constraint}
 use borrow.Author.Needs.{needs}
 use mathlib.Core.Bool.{Bool}
 use mathlib.Core.Path.{refl, sym, ap}
-use Rattle.limits.proofs.creates.is_constraint_within.Statement.{statement}
-use Rattle.limits.proofs.creates.is_constraint_within.Tie as tie
+use Rattle.limits.proofs.entries.is_constraint_within.Statement.{statement}
+use Rattle.limits.proofs.entries.is_constraint_within.Tie as tie
 
 inner : (c : tie.After-key-names) → Inside constraint (listOf 2 name) constraintWithin (listWithin 64 Within) (c .before .before .before .before .args .c .now) (c .key-names .result .now)
 unfolding constraintWithin
@@ -27,11 +27,11 @@ returns c = λ v h. sym (ap constraintWithin (no-key v (failed (c .before .is-pr
 key-names-requires : tie.Need-key-names-requires
 key-names-requires c κs = record { there = c .before .before .before .pre .there; case = λ v h. passed (c .before .is-primary-key .ensures v h) (c .if1 .left) }
 
-are-names-within-requires : tie.Need-are-names-within-requires
-are-names-within-requires c κs = inside-is (inner c) (c .before .before .before .before .pre)
+are-leaves-within-requires : tie.Need-are-leaves-within-requires
+are-leaves-within-requires c κs = inside-is (inner c) (c .before .before .before .before .pre)
 
 returns-2 : tie.Need-returns-2
-returns-2 c = inside-says (inner (c .before)) (λ (b : Bool). b) (c .are-names-within .ensures)
+returns-2 c = inside-says (inner (c .before)) (λ (b : Bool). b) (c .are-leaves-within .ensures)
 
 pub is-constraint-within-spec : {M : Type 1} → statement M
 is-constraint-within-spec =
@@ -40,5 +40,5 @@ is-constraint-within-spec =
     is-primary-key-requires
     returns
     key-names-requires
-    are-names-within-requires
+    are-leaves-within-requires
     returns-2)

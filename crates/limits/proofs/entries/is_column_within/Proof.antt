@@ -1,4 +1,4 @@
--- `limits::creates::is_column_within` meets its contract.
+-- `limits::entries::is_column_within` meets its contract.
 -- Assumes nothing.
 use Rattle.bundle.specs.Decides.{stop, on, last, failed, passed}
 use Rattle.bundle.specs.Held.{Is, is-held, held, list-bundle, list-count}
@@ -8,8 +8,8 @@ use Rattle.rules.specs.Limits.{atMost}
 use Rattle.statement.specs.Layout.{name, option}
 use borrow.Author.Needs.{needs}
 use mathlib.Core.Path.{sym, ap, _∙_}
-use Rattle.limits.proofs.creates.is_column_within.Statement.{statement}
-use Rattle.limits.proofs.creates.is_column_within.Tie as tie
+use Rattle.limits.proofs.entries.is_column_within.Statement.{statement}
+use Rattle.limits.proofs.entries.is_column_within.Tie as tie
 
 list : (c : tie.After-options) → Is (listOf 2 option) (c .options .result .now)
 list c = held (c .before .before .before .before .before .pre) (λ v h. is-held {f = listOf 2 option} (c .options .ensures v h))

@@ -1,4 +1,4 @@
--- `limits::updates::is_target_within` meets its contract.
+-- `limits::entries::is_target_within` meets its contract.
 -- Assumes nothing.
 use Rattle.bundle.specs.Looks.{Inside, inside-is, inside-says}
 use Rattle.expression.specs.Names.{Within}
@@ -8,8 +8,8 @@ use Rattle.rules.specs.Lists.{all}
 use Rattle.statement.specs.Layout.{objectName, assignmentTarget}
 use borrow.Author.Needs.{needs}
 use mathlib.Core.Path.{sym, ap, _∙_}
-use Rattle.limits.proofs.updates.is_target_within.Statement.{statement}
-use Rattle.limits.proofs.updates.is_target_within.Tie as tie
+use Rattle.limits.proofs.entries.is_target_within.Statement.{statement}
+use Rattle.limits.proofs.entries.is_target_within.Tie as tie
 
 inner : (c : tie.After-target-name) → Inside assignmentTarget objectName targetNames objectNames (c .before .before .before .before .args .t .now) (c .target-name .result .now)
 inner c = target-inside (λ v h. sym (c .before .before .target-code .ensures v h) ∙ c .before .if1 .left) (c .target-name .ensures)
