@@ -2,6 +2,7 @@
 mod creates;
 mod deletes;
 mod inserts;
+mod lists;
 mod named;
 mod selects;
 mod updates;

@@ -6,8 +6,6 @@ use statement::names::only_name;
 use statement::table;
 ghost use mathlib.Core.Path.{_≡_};
 ghost use mathlib.Core.Option.{Option};
-ghost use mathlib.Core.List.{List};
-ghost use Rattle.codec.specs.Layout.{listOf};
 ghost use Rattle.bundle.specs.Held.{Is, Holds};
 ghost use Rattle.rules.specs.Names.{beyondAscii};
 ghost use Rattle.rules.specs.Statements.{Name, ObjectName, Relation, TableWithJoins, Expr};
@@ -20,24 +18,6 @@ pub fn name_beyond(n: &[u8]) -> bool
     ensures { λ r. ⌜ ((v : Name) → Holds name (now (n .entry)) v → r ≡ beyondAscii v) ⌝ }
 {
     names::beyond_ascii(name_is_quoted(n), name_text(n))
-}
-
-pub fn names_beyond(s: &[u8]) -> bool
-    requires { ⌜ Is (listOf 2 name) (now s) ⌝ }
-    ensures { λ r. ⌜ ((vs : List Name) → Holds (listOf 2 name) (now (s .entry)) vs → r ≡ Beyond vs) ⌝ }
-{
-    let n = bundle::parts(s, 2);
-    let mut at = bundle::first(s, 2);
-    let mut i = 0;
-    while i < n {
-        let end = bundle::next(s, 2, i, at);
-        if name_beyond(&s[at..end]) {
-            return true;
-        }
-        at = end;
-        i += 1;
-    }
-    false
 }
 
 pub fn object_name_beyond(o: &[u8]) -> bool

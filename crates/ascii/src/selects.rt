@@ -1,17 +1,17 @@
 // A query: the names of a plain SELECT.
+use crate::lists::Of;
+use crate::lists::list_beyond;
 use crate::named::condition_beyond;
 use crate::named::name_beyond;
 use crate::named::table_beyond;
 ghost use mathlib.Core.Path.{_≡_};
-ghost use mathlib.Core.List.{List};
-ghost use Rattle.codec.specs.Layout.{listOf};
 ghost use Rattle.bundle.specs.Held.{Is, Holds};
 ghost use Rattle.rules.specs.Statements.{Item, From, Select, QueryBody, Query};
-ghost use Rattle.rules.specs.Limits.{gather, itemNames, fromNames, heldBySelect, heldByBody};
+ghost use Rattle.rules.specs.Limits.{itemNames, fromNames, heldBySelect, heldByBody};
 ghost use Rattle.statement.specs.Layout.{item, selectFrom, select, queryBody, selection};
 ghost use Rattle.ascii.specs.Beyond.{Beyond};
 
-fn item_beyond(i: &[u8]) -> bool
+pub fn item_beyond(i: &[u8]) -> bool
     requires { ⌜ Is item (now i) ⌝ }
     ensures { λ r. ⌜ ((v : Item) → Holds item (now (i .entry)) v → r ≡ Beyond (itemNames v)) ⌝ }
 {
@@ -19,24 +19,6 @@ fn item_beyond(i: &[u8]) -> bool
         return false;
     }
     name_beyond(select::column_of(i))
-}
-
-fn items_beyond(s: &[u8]) -> bool
-    requires { ⌜ Is (listOf 2 item) (now s) ⌝ }
-    ensures { λ r. ⌜ ((vs : List Item) → Holds (listOf 2 item) (now (s .entry)) vs → r ≡ Beyond (gather itemNames vs)) ⌝ }
-{
-    let n = bundle::parts(s, 2);
-    let mut at = bundle::first(s, 2);
-    let mut i = 0;
-    while i < n {
-        let end = bundle::next(s, 2, i, at);
-        if item_beyond(&s[at..end]) {
-            return true;
-        }
-        at = end;
-        i += 1;
-    }
-    false
 }
 
 fn from_beyond(f: &[u8]) -> bool
@@ -56,7 +38,7 @@ fn select_beyond(s: &[u8]) -> bool
     if from_beyond(select::from_of(s)) {
         return true;
     }
-    if items_beyond(select::items_of(s)) {
+    if list_beyond(select::items_of(s), Of::Items) {
         return true;
     }
     condition_beyond(select::condition_of(s))

@@ -1,13 +1,13 @@
 // UPDATE: the names of its table, its assignments and its condition.
+use crate::lists::Of;
+use crate::lists::list_beyond;
 use crate::named::condition_beyond;
 use crate::named::object_name_beyond;
 use crate::named::table_beyond;
 ghost use mathlib.Core.Path.{_≡_};
-ghost use mathlib.Core.List.{List};
-ghost use Rattle.codec.specs.Layout.{listOf};
 ghost use Rattle.bundle.specs.Held.{Is, Holds};
 ghost use Rattle.rules.specs.Statements.{Target, Assignment, Update};
-ghost use Rattle.rules.specs.Limits.{gather, targetNames, assignmentNames, heldByUpdate};
+ghost use Rattle.rules.specs.Limits.{targetNames, assignmentNames, heldByUpdate};
 ghost use Rattle.statement.specs.Layout.{assignmentTarget, assignment, updating};
 ghost use Rattle.ascii.specs.Beyond.{Beyond};
 
@@ -22,7 +22,7 @@ fn target_beyond(t: &[u8]) -> bool
 }
 
 // The value is looked at whatever the target is.
-fn assignment_beyond(a: &[u8]) -> bool
+pub fn assignment_beyond(a: &[u8]) -> bool
     requires { ⌜ Is assignment (now a) ⌝ }
     ensures { λ r. ⌜ ((v : Assignment) → Holds assignment (now (a .entry)) v → r ≡ Beyond (assignmentNames v)) ⌝ }
 {
@@ -32,24 +32,6 @@ fn assignment_beyond(a: &[u8]) -> bool
     expression::names_beyond_ascii(update::value_of(a))
 }
 
-fn assignments_beyond(s: &[u8]) -> bool
-    requires { ⌜ Is (listOf 2 assignment) (now s) ⌝ }
-    ensures { λ r. ⌜ ((vs : List Assignment) → Holds (listOf 2 assignment) (now (s .entry)) vs → r ≡ Beyond (gather assignmentNames vs)) ⌝ }
-{
-    let n = bundle::parts(s, 2);
-    let mut at = bundle::first(s, 2);
-    let mut i = 0;
-    while i < n {
-        let end = bundle::next(s, 2, i, at);
-        if assignment_beyond(&s[at..end]) {
-            return true;
-        }
-        at = end;
-        i += 1;
-    }
-    false
-}
-
 pub fn update_beyond(u: &[u8]) -> bool
     requires { ⌜ Is updating (now u) ⌝ }
     ensures { λ r. ⌜ ((v : Update) → Holds updating (now (u .entry)) v → r ≡ Beyond (heldByUpdate v .names)) ⌝ }
@@ -57,7 +39,7 @@ pub fn update_beyond(u: &[u8]) -> bool
     if table_beyond(update::table_of(u)) {
         return true;
     }
-    if assignments_beyond(update::assignments(u)) {
+    if list_beyond(update::assignments(u), Of::Assignments) {
         return true;
     }
     condition_beyond(update::condition_of(u))

@@ -25,11 +25,11 @@ returns c = λ v h. sym (ap (λ (k : Constraint). Beyond (constraintNames k)) (n
 key-names-requires : tie.Need-key-names-requires
 key-names-requires c κs = record { there = c .before .before .before .pre .there; case = λ v h. passed (c .before .is-primary-key .ensures v h) (c .if1 .left) }
 
-names-beyond-requires : tie.Need-names-beyond-requires
-names-beyond-requires c κs = inside-is (inner c) (c .before .before .before .before .pre)
+list-beyond-requires : tie.Need-list-beyond-requires
+list-beyond-requires c κs = inside-is (inner c) (c .before .before .before .before .pre)
 
 returns-2 : tie.Need-returns-2
-returns-2 c = inside-says (inner (c .before)) Beyond (c .names-beyond .ensures)
+returns-2 c = inside-says (inner (c .before)) Beyond (c .list-beyond .ensures)
 
 pub constraint-beyond-spec : {M : Type 1} → statement M
 constraint-beyond-spec =
@@ -38,5 +38,5 @@ constraint-beyond-spec =
     is-primary-key-requires
     returns
     key-names-requires
-    names-beyond-requires
+    list-beyond-requires
     returns-2)

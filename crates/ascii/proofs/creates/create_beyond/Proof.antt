@@ -19,14 +19,14 @@ left-1 : (c : tie.Else1) (v : CreateTable) → Holds create (c .before .before .
 unfolding heldByCreateTable
 left-1 c v h = beyond-on (objectNames (v .name)) (map (λ (d : ColumnDefinition). d .name) (v .columns) ++ gather constraintNames (v .constraints)) (sym (told-1 (c .before) v h) ∙ c .if1 .left)
 
-told-2 : (c : tie.After-columns-beyond) (v : CreateTable) → Holds create (c .before .before .before .before .before .before .args .c .now) v → c .columns-beyond .result ≡ Beyond (map (λ (d : ColumnDefinition). d .name) (v .columns))
-told-2 c v h = c .columns-beyond .ensures (v .columns) (c .before .columns .ensures v h)
+told-2 : (c : tie.After-list-beyond) (v : CreateTable) → Holds create (c .before .before .before .before .before .before .args .c .now) v → c .list-beyond .result ≡ Beyond (map (λ (d : ColumnDefinition). d .name) (v .columns))
+told-2 c v h = c .list-beyond .ensures (v .columns) (c .before .columns .ensures v h)
 
 left-2 : (c : tie.Else2) (v : CreateTable) → Holds create (c .before .before .before .before .before .before .before .args .c .now) v → Beyond (heldByCreateTable v .names) ≡ Beyond (gather constraintNames (v .constraints))
 left-2 c v h = left-1 (c .before .before .before) v h ∙ beyond-on (map (λ (d : ColumnDefinition). d .name) (v .columns)) (gather constraintNames (v .constraints)) (sym (told-2 (c .before) v h) ∙ c .if2 .left)
 
-told-3 : (c : tie.After-constraints-beyond) (v : CreateTable) → Holds create (c .before .before .before .before .before .before .before .before .before .args .c .now) v → c .constraints-beyond .result ≡ Beyond (gather constraintNames (v .constraints))
-told-3 c v h = c .constraints-beyond .ensures (v .constraints) (c .before .constraints .ensures v h)
+told-3 : (c : tie.After-nest-beyond) (v : CreateTable) → Holds create (c .before .before .before .before .before .before .before .before .before .args .c .now) v → c .nest-beyond .result ≡ Beyond (gather constraintNames (v .constraints))
+told-3 c v h = c .nest-beyond .ensures (v .constraints) (c .before .constraints .ensures v h)
 
 table-name-requires : tie.Need-table-name-requires
 table-name-requires c κs = search needs
@@ -41,8 +41,8 @@ returns c = λ v h. sym (beyond-stop (objectNames (v .name)) (map (λ (d : Colum
 columns-requires : tie.Need-columns-requires
 columns-requires c κs = search needs
 
-columns-beyond-requires : tie.Need-columns-beyond-requires
-columns-beyond-requires c κs = held (c .before .before .before .before .before .pre) (λ v h. is-held {f = listOf 2 columnDefinition} (c .columns .ensures v h))
+list-beyond-requires : tie.Need-list-beyond-requires
+list-beyond-requires c κs = held (c .before .before .before .before .before .pre) (λ v h. is-held {f = listOf 2 columnDefinition} (c .columns .ensures v h))
 
 returns-2 : tie.Need-returns-2
 returns-2 c = λ v h. sym (left-1 (c .before .before .before) v h ∙ beyond-stop (map (λ (d : ColumnDefinition). d .name) (v .columns)) (gather constraintNames (v .constraints)) (sym (told-2 (c .before) v h) ∙ c .if2 .taken))
@@ -50,8 +50,8 @@ returns-2 c = λ v h. sym (left-1 (c .before .before .before) v h ∙ beyond-sto
 constraints-requires : tie.Need-constraints-requires
 constraints-requires c κs = search needs
 
-constraints-beyond-requires : tie.Need-constraints-beyond-requires
-constraints-beyond-requires c κs = held (c .before .before .before .before .before .before .before .before .pre) (λ v h. is-held {f = listOf 2 constraint} (c .constraints .ensures v h))
+nest-beyond-requires : tie.Need-nest-beyond-requires
+nest-beyond-requires c κs = held (c .before .before .before .before .before .before .before .before .pre) (λ v h. is-held {f = listOf 2 constraint} (c .constraints .ensures v h))
 
 returns-3 : tie.Need-returns-3
 returns-3 c = λ v h. told-3 c v h ∙ sym (left-2 (c .before .before) v h)
@@ -64,8 +64,8 @@ create-beyond-spec =
     object-name-beyond-requires
     returns
     columns-requires
-    columns-beyond-requires
+    list-beyond-requires
     returns-2
     constraints-requires
-    constraints-beyond-requires
+    nest-beyond-requires
     returns-3)

@@ -32,11 +32,11 @@ returns c = λ v h. sym (ap beyond (no-values v (failed (c .before .is-values .e
 rows-of-requires : tie.Need-rows-of-requires
 rows-of-requires c κs = record { there = c .before .before .before .pre .there; case = λ v h. passed (c .before .is-values .ensures v h) (c .if1 .left) }
 
-rows-beyond-requires : tie.Need-rows-beyond-requires
-rows-beyond-requires c κs = inside-is (inner c) (c .before .before .before .before .pre)
+nest-beyond-requires : tie.Need-nest-beyond-requires
+nest-beyond-requires c κs = inside-is (inner c) (c .before .before .before .before .pre)
 
 returns-2 : tie.Need-returns-2
-returns-2 c = inside-says (inner (c .before)) beyond (c .rows-beyond .ensures)
+returns-2 c = inside-says (inner (c .before)) beyond (c .nest-beyond .ensures)
 
 pub body-beyond-spec : {M : Type 1} → statement M
 body-beyond-spec =
@@ -45,5 +45,5 @@ body-beyond-spec =
     is-values-requires
     returns
     rows-of-requires
-    rows-beyond-requires
+    nest-beyond-requires
     returns-2)

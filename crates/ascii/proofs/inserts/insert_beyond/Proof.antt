@@ -19,8 +19,8 @@ left-1 : (c : tie.Else1) (v : Insert) → Holds insertion (c .before .before .be
 unfolding heldByInsert
 left-1 c v h = beyond-on (objectNames (v .name)) (v .columns ++ gather (gather expressionNames) (sourceRows (v .source))) (sym (told-1 (c .before) v h) ∙ c .if1 .left)
 
-told-2 : (c : tie.After-names-beyond) (v : Insert) → Holds insertion (c .before .before .before .before .before .before .args .i .now) v → c .names-beyond .result ≡ Beyond (v .columns)
-told-2 c v h = c .names-beyond .ensures (v .columns) (c .before .columns .ensures v h)
+told-2 : (c : tie.After-list-beyond) (v : Insert) → Holds insertion (c .before .before .before .before .before .before .args .i .now) v → c .list-beyond .result ≡ Beyond (v .columns)
+told-2 c v h = c .list-beyond .ensures (v .columns) (c .before .columns .ensures v h)
 
 left-2 : (c : tie.Else2) (v : Insert) → Holds insertion (c .before .before .before .before .before .before .before .args .i .now) v → Beyond (heldByInsert v .names) ≡ Beyond (gather (gather expressionNames) (sourceRows (v .source)))
 left-2 c v h = left-1 (c .before .before .before) v h ∙ beyond-on (v .columns) (gather (gather expressionNames) (sourceRows (v .source))) (sym (told-2 (c .before) v h) ∙ c .if2 .left)
@@ -41,8 +41,8 @@ returns c = λ v h. sym (beyond-stop (objectNames (v .name)) (v .columns ++ gath
 columns-requires : tie.Need-columns-requires
 columns-requires c κs = search needs
 
-names-beyond-requires : tie.Need-names-beyond-requires
-names-beyond-requires c κs = held (c .before .before .before .before .before .pre) (λ v h. is-held {f = listOf 2 name} (c .columns .ensures v h))
+list-beyond-requires : tie.Need-list-beyond-requires
+list-beyond-requires c κs = held (c .before .before .before .before .before .pre) (λ v h. is-held {f = listOf 2 name} (c .columns .ensures v h))
 
 returns-2 : tie.Need-returns-2
 returns-2 c = λ v h. sym (left-1 (c .before .before .before) v h ∙ beyond-stop (v .columns) (gather (gather expressionNames) (sourceRows (v .source))) (sym (told-2 (c .before) v h) ∙ c .if2 .taken))
@@ -61,7 +61,7 @@ insert-beyond-spec =
     object-name-beyond-requires
     returns
     columns-requires
-    names-beyond-requires
+    list-beyond-requires
     returns-2
     source-beyond-requires
     returns-3)

@@ -19,8 +19,8 @@ left-1 : (c : tie.Else1) (v : Select) → Holds select (c .before .before .befor
 unfolding heldBySelect
 left-1 c v h = beyond-on (fromNames (v .from)) (gather itemNames (v .items) ++ gather expressionNames (ifThere (v .condition))) (sym (told-1 (c .before) v h) ∙ c .if1 .left)
 
-told-2 : (c : tie.After-items-beyond) (v : Select) → Holds select (c .before .before .before .before .before .before .args .s .now) v → c .items-beyond .result ≡ Beyond (gather itemNames (v .items))
-told-2 c v h = c .items-beyond .ensures (v .items) (c .before .items-of .ensures v h)
+told-2 : (c : tie.After-list-beyond) (v : Select) → Holds select (c .before .before .before .before .before .before .args .s .now) v → c .list-beyond .result ≡ Beyond (gather itemNames (v .items))
+told-2 c v h = c .list-beyond .ensures (v .items) (c .before .items-of .ensures v h)
 
 left-2 : (c : tie.Else2) (v : Select) → Holds select (c .before .before .before .before .before .before .before .args .s .now) v → Beyond (heldBySelect v .names) ≡ Beyond (gather expressionNames (ifThere (v .condition)))
 left-2 c v h = left-1 (c .before .before .before) v h ∙ beyond-on (gather itemNames (v .items)) (gather expressionNames (ifThere (v .condition))) (sym (told-2 (c .before) v h) ∙ c .if2 .left)
@@ -41,8 +41,8 @@ returns c = λ v h. sym (beyond-stop (fromNames (v .from)) (gather itemNames (v 
 items-of-requires : tie.Need-items-of-requires
 items-of-requires c κs = search needs
 
-items-beyond-requires : tie.Need-items-beyond-requires
-items-beyond-requires c κs = held (c .before .before .before .before .before .pre) (λ v h. is-held {f = listOf 2 item} (c .items-of .ensures v h))
+list-beyond-requires : tie.Need-list-beyond-requires
+list-beyond-requires c κs = held (c .before .before .before .before .before .pre) (λ v h. is-held {f = listOf 2 item} (c .items-of .ensures v h))
 
 returns-2 : tie.Need-returns-2
 returns-2 c = λ v h. sym (left-1 (c .before .before .before) v h ∙ beyond-stop (gather itemNames (v .items)) (gather expressionNames (ifThere (v .condition))) (sym (told-2 (c .before) v h) ∙ c .if2 .taken))
@@ -64,7 +64,7 @@ select-beyond-spec =
     from-beyond-requires
     returns
     items-of-requires
-    items-beyond-requires
+    list-beyond-requires
     returns-2
     condition-of-requires
     condition-beyond-requires

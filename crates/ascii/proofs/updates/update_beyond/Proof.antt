@@ -19,8 +19,8 @@ left-1 : (c : tie.Else1) (v : Update) → Holds updating (c .before .before .bef
 unfolding heldByUpdate
 left-1 c v h = beyond-on (tableNames (v .table)) (gather assignmentNames (v .assignments) ++ gather expressionNames (ifThere (v .condition))) (sym (told-1 (c .before) v h) ∙ c .if1 .left)
 
-told-2 : (c : tie.After-assignments-beyond) (v : Update) → Holds updating (c .before .before .before .before .before .before .args .u .now) v → c .assignments-beyond .result ≡ Beyond (gather assignmentNames (v .assignments))
-told-2 c v h = c .assignments-beyond .ensures (v .assignments) (c .before .assignments .ensures v h)
+told-2 : (c : tie.After-list-beyond) (v : Update) → Holds updating (c .before .before .before .before .before .before .args .u .now) v → c .list-beyond .result ≡ Beyond (gather assignmentNames (v .assignments))
+told-2 c v h = c .list-beyond .ensures (v .assignments) (c .before .assignments .ensures v h)
 
 left-2 : (c : tie.Else2) (v : Update) → Holds updating (c .before .before .before .before .before .before .before .args .u .now) v → Beyond (heldByUpdate v .names) ≡ Beyond (gather expressionNames (ifThere (v .condition)))
 left-2 c v h = left-1 (c .before .before .before) v h ∙ beyond-on (gather assignmentNames (v .assignments)) (gather expressionNames (ifThere (v .condition))) (sym (told-2 (c .before) v h) ∙ c .if2 .left)
@@ -41,8 +41,8 @@ returns c = λ v h. sym (beyond-stop (tableNames (v .table)) (gather assignmentN
 assignments-requires : tie.Need-assignments-requires
 assignments-requires c κs = search needs
 
-assignments-beyond-requires : tie.Need-assignments-beyond-requires
-assignments-beyond-requires c κs = held (c .before .before .before .before .before .pre) (λ v h. is-held {f = listOf 2 assignment} (c .assignments .ensures v h))
+list-beyond-requires : tie.Need-list-beyond-requires
+list-beyond-requires c κs = held (c .before .before .before .before .before .pre) (λ v h. is-held {f = listOf 2 assignment} (c .assignments .ensures v h))
 
 returns-2 : tie.Need-returns-2
 returns-2 c = λ v h. sym (left-1 (c .before .before .before) v h ∙ beyond-stop (gather assignmentNames (v .assignments)) (gather expressionNames (ifThere (v .condition))) (sym (told-2 (c .before) v h) ∙ c .if2 .taken))
@@ -64,7 +64,7 @@ update-beyond-spec =
     table-beyond-requires
     returns
     assignments-requires
-    assignments-beyond-requires
+    list-beyond-requires
     returns-2
     condition-of-requires
     condition-beyond-requires
