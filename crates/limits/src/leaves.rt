@@ -1,4 +1,5 @@
 // The lists that stand innermost, of names and of a row's values: at most 64 entries, each within the top sizes.
+// Their loop is apart from that of crate::entries, whose entries hold such lists: one loop for both would call itself.
 use crate::expressions::is_expression_within;
 use crate::names::is_name_within;
 ghost use mathlib.Core.Path.{_≡_};
