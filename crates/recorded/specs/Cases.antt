@@ -11,7 +11,7 @@ use borrow.Author.Tests.{leb-true, le-leb, lt-leb}
 use lib.Dec.{leb}
 use lib.ListN.{length}
 use Rattle.bundle.specs.Decides.{and-of}
-use Rattle.recorded.specs.Layout.{size, room, starts, isCase}
+use Rattle.recorded.specs.Layout.{size, room, starts, most, isCase}
 
 -- ---- where its parts start
 
@@ -39,7 +39,7 @@ module _ (k : ℕ) (s : List ℕ) where
   unfolding isCase
   case-cut g h = simp (le-leb (5 + 4 * k) (length s) g, lt-leb (starts k k s) (length s) h)
 
-  pub case-there : 5 + 4 * k ≤ length s → starts k k s ≤ length s → leb (room s) 1500 ≡ isCase k s
+  pub case-there : 5 + 4 * k ≤ length s → starts k k s ≤ length s → leb (room s) most ≡ isCase k s
   unfolding isCase
   case-there g h = simp (le-leb (5 + 4 * k) (length s) g, le-leb (starts k k s) (length s) h)
 
@@ -48,19 +48,19 @@ module _ (k : ℕ) (s : List ℕ) where
 module _ (k : ℕ) (s : List ℕ) (h : isCase k s ≡ true) where
   pub case-head : 5 + 4 * k ≤ length s
   unfolding isCase
-  case-head = leb-true (5 + 4 * k) (length s) (and-of (leb (5 + 4 * k) (length s)) (leb (starts k k s) (length s) && leb (room s) 1500) h .0)
+  case-head = leb-true (5 + 4 * k) (length s) (and-of (leb (5 + 4 * k) (length s)) (leb (starts k k s) (length s) && leb (room s) most) h .0)
 
   pub case-end : starts k k s ≤ length s
   unfolding isCase
   case-end =
-      let r = and-of (leb (5 + 4 * k) (length s)) (leb (starts k k s) (length s) && leb (room s) 1500) h .1 in
-      leb-true (starts k k s) (length s) (and-of (leb (starts k k s) (length s)) (leb (room s) 1500) r .0)
+      let r = and-of (leb (5 + 4 * k) (length s)) (leb (starts k k s) (length s) && leb (room s) most) h .1 in
+      leb-true (starts k k s) (length s) (and-of (leb (starts k k s) (length s)) (leb (room s) most) r .0)
 
-  pub case-room : room s ≤ 1500
+  pub case-room : room s ≤ most
   unfolding isCase
   case-room =
-      let r = and-of (leb (5 + 4 * k) (length s)) (leb (starts k k s) (length s) && leb (room s) 1500) h .1 in
-      leb-true (room s) 1500 (and-of (leb (starts k k s) (length s)) (leb (room s) 1500) r .1)
+      let r = and-of (leb (5 + 4 * k) (length s)) (leb (starts k k s) (length s) && leb (room s) most) h .1 in
+      leb-true (room s) most (and-of (leb (starts k k s) (length s)) (leb (room s) most) r .1)
 
   pub part-end : (j : ℕ) → j < k → starts k j s + size (5 + 4 * j) s ≤ length s
   part-end j l =

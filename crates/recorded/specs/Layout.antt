@@ -30,9 +30,13 @@ starts k (suc j) s = starts k j s + size (5 + 4 * j) s
 unfoldable pub part : ℕ → ℕ → List ℕ → List ℕ
 part k j s = take (size (5 + 4 * j) s) (drop (starts k j s) s)
 
+-- the longest room
+abbrev pub most : ℕ
+most = 4500
+
 -- s is long enough for its head and for its parts, and the room for a buffer
 unfoldable pub isCase : ℕ → List ℕ → Bool
-isCase k s = leb (5 + 4 * k) (length s) && (leb (starts k k s) (length s) && leb (room s) 1500)
+isCase k s = leb (5 + 4 * k) (length s) && (leb (starts k k s) (length s) && leb (room s) most)
 
 abbrev pub behind : ℕ → List ℕ → List ℕ
 behind k s = drop (starts k k s) s

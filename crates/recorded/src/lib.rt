@@ -1,5 +1,6 @@
 // Records of cases with the answers that are expected: how one is laid out, whether an answer is the expected one, and what is counted.
-// `specs/Layout.antt` has the layout. The programs that replay a record share this.
+// `specs/Layout.antt` has the layout. `replaying` goes through a record.
+pub mod replaying;
 pub mod said;
 
 use sirklemet::Reply;
@@ -8,12 +9,19 @@ ghost use mathlib.Core.Path.{_≡_};
 ghost use Prim.Native.Nat.{_+_, _*_, _≤_, _<_};
 ghost use lib.ListN.{length};
 ghost use Rattle.wire.specs.Le.{Got};
-ghost use Rattle.recorded.specs.Layout.{starts, part, isCase};
+ghost use Rattle.recorded.specs.Layout.{starts, part, most, isCase};
 ghost use Rattle.recorded.specs.Agrees.{agreeing};
+ghost use Rattle.recorded.specs.Differs.{partsOf};
 ghost use Rattle.recorded.specs.Counts.{bit, isOther, added, none, replayed, Few};
 
 // The longest room of a case.
-const MOST: usize = 1500;
+const MOST: usize = 4500;
+
+// What a record is of: statements bound, or run on a row.
+pub enum Of {
+    Binds,
+    Runs,
+}
 
 // What was counted of some cases, by the answers that are expected.
 pub struct Tally {
@@ -30,8 +38,18 @@ pub struct Replayed {
     pub tally: Tally,
 }
 
+// Of a case.
+fn parts(of: Of) -> usize
+    ensures { λ r. ⌜ (r ≡ partsOf of) × (r ≤ 4) ⌝ }
+{
+    match of {
+        Of::Binds => 3,
+        Of::Runs => 4,
+    }
+}
+
 // The number in the four bytes from `at` on.
-pub fn size(s: &[u8], at: usize) -> usize
+fn size(s: &[u8], at: usize) -> usize
     requires { ⌜ at + 4 ≤ length (now s) ⌝ }
     ensures { λ r. ⌜ Got (now (s .entry)) at 4 r ⌝ }
 {
@@ -53,7 +71,7 @@ fn starts(s: &[u8], k: usize, j: usize) -> usize
 }
 
 // Whether a case of k parts stands at the front.
-pub fn is_case(s: &[u8], k: usize) -> bool
+fn is_case(s: &[u8], k: usize) -> bool
     requires { ⌜ k ≤ 4 ⌝ }
     ensures { λ r. ⌜ r ≡ isCase k (now (s .entry)) ⌝ }
 {
@@ -66,7 +84,7 @@ pub fn is_case(s: &[u8], k: usize) -> bool
     size(s, 1) <= MOST
 }
 
-pub fn part(s: &[u8], k: usize, j: usize) -> &[u8]
+fn part(s: &[u8], k: usize, j: usize) -> &[u8]
     requires { ⌜ (isCase k (now s) ≡ true) × (j < k) × (k ≤ 4) ⌝ }
     ensures { λ r. ⌜ now r ≡ part k j (now (s .entry)) ⌝ }
 {
@@ -76,7 +94,7 @@ pub fn part(s: &[u8], k: usize, j: usize) -> &[u8]
 }
 
 // How long the case is.
-pub fn case_length(s: &[u8], k: usize) -> usize
+fn case_length(s: &[u8], k: usize) -> usize
     requires { ⌜ (isCase k (now s) ≡ true) × (k ≤ 4) ⌝ }
     ensures { λ r. ⌜ (r ≡ starts k k (now (s .entry))) × (r ≤ length (now (s .entry))) ⌝ }
 {
@@ -84,14 +102,14 @@ pub fn case_length(s: &[u8], k: usize) -> usize
 }
 
 // An output before it is lent, for every room. The byte stands in few answers, so that a byte too many is seen.
-pub fn untouched() -> [u8; 1500]
-    ensures { λ r. ⌜ 1500 ≡ length r ⌝ }
+fn untouched() -> [u8; 4500]
+    ensures { λ r. ⌜ most ≡ length r ⌝ }
 {
-    [165; 1500]
+    [165; 4500]
 }
 
 // The number, the length, every byte, and the room behind them as it was.
-pub fn agrees(heard: Reply, number: u8, expected: &[u8], before: &[u8], out: &[u8]) -> bool
+fn agrees(heard: Reply, number: u8, expected: &[u8], before: &[u8], out: &[u8]) -> bool
     ensures { λ r. ⌜ r ≡ agreeing heard number (now (expected .entry)) (now (before .entry)) (now (out .entry)) ⌝ }
 {
     if heard.refusal != number {
@@ -120,7 +138,7 @@ fn one(yes: bool) -> u64
     if yes { 1 } else { 0 }
 }
 
-pub fn nothing() -> Tally
+fn nothing() -> Tally
     ensures { λ r. ⌜ r ≡ none ⌝ }
 {
     Tally {
@@ -143,7 +161,7 @@ fn is_other(number: u8) -> bool
 }
 
 // One case more.
-pub fn counted(t: Tally, number: u8, differs: bool) -> Tally
+fn counted(t: Tally, number: u8, differs: bool) -> Tally
     requires { ⌜ Few t ⌝ }
     ensures { λ r. ⌜ r ≡ added t number differs ⌝ }
 {
@@ -156,7 +174,7 @@ pub fn counted(t: Tally, number: u8, differs: bool) -> Tally
     }
 }
 
-pub fn ended(is_whole: bool, tally: Tally) -> Replayed
+fn ended(is_whole: bool, tally: Tally) -> Replayed
     ensures { λ r. ⌜ r ≡ replayed «is_whole» tally ⌝ }
 {
     Replayed {

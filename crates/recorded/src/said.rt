@@ -1,12 +1,11 @@
-// Reading the file `record`, and writing to standard output.
+// Reading a file, and writing to standard output.
 use libc::STDOUT_FILENO;
 ghost use Rattle.io.specs.Counts.{Counts};
 
 // How many bytes the file has, which are put at the front of `to`; all of `to` for a longer file. 0 for none.
-pub fn read(to: &mut [u8]) -> usize
+pub fn read(path: &[u8], to: &mut [u8]) -> usize
     ensures { λ r. ⌜ Counts r (now (to .exit)) ⌝ }
 {
-    let path = b"record";
     let fd = os::open_read(path);
     if fd < 0 {
         os::fail(path);

@@ -1,85 +1,63 @@
-// Replays a record of the Rust's answers: `data/README` says how it was made and how it is laid out. Each case is bound
-// here, and the cases that differ from the Rust's answer are counted. `told` compares, on slices alone; `file` reads.
-mod file;
-mod told;
+// Replays the two records: `data/README` says how each was made and how it is laid out. What is counted of a record is `recorded`'s; here it
+// is read and printed.
+use recorded::Of;
+use recorded::Replayed;
+use recorded::Tally;
+use recorded::replaying::replayed;
+use recorded::said::read;
+use recorded::said::say;
+use recorded::said::say_damage;
+use recorded::said::say_number;
 
-use libc::STDOUT_FILENO;
-ghost use Prim.Native.Nat.{_≤_};
-
-fn say(words: &[u8]) {
-    io::write_all(STDOUT_FILENO, words);
-}
-
-fn say_number(n: u64) {
-    io::print_decimal(STDOUT_FILENO, n);
-}
-
-// Cases are counted from 0.
-fn say_damage(case: u64) {
-    say(b"the record is damaged at case ");
-    say_number(case);
-    say(b"\n");
-}
-
-fn say_difference(case: u64, answer: u8) {
-    say(b"case ");
-    say_number(case);
-    say(b" differs, and the Rust answers it with ");
-    say_number(answer as u64);
-    say(b"\n");
-}
-
-fn say_counts(cases: u64, bound: u64, differences: u64) {
-    say_number(cases);
-    say(b" replayed: ");
-    say_number(bound);
+fn say_binds(t: Tally) {
+    say_number(t.answered);
     say(b" bound, ");
-    say_number(differences);
+}
+
+fn say_runs(t: Tally) {
+    say_number(t.answered);
+    say(b" rows, ");
+    say_number(t.faults);
+    say(b" faults, ");
+    say_number(t.others);
+    say(b" refused otherwise, ");
+}
+
+fn say_counts(of: Of, t: Tally) {
+    say_number(t.cases);
+    say(b" replayed: ");
+    match of {
+        Of::Binds => say_binds(t),
+        Of::Runs => say_runs(t),
+    }
+    say_number(t.differences);
     say(b" differences\n");
 }
 
-// 1 for yes: what a count grows by.
-fn one(yes: bool) -> u64
-    ensures { λ r. ⌜ r ≤ 1 ⌝ }
-{
-    if yes { 1 } else { 0 }
+fn say_all(name: &[u8], of: Of, r: Replayed) {
+    say(name);
+    say(b": ");
+    let t = r.tally;
+    if !r.is_whole {
+        say_damage(t.cases);
+        return;
+    }
+    say_counts(of, t);
 }
 
-fn replay(fd: i32, cases: u64) {
-    if cases == 0 {
-        say_damage(0);
-        return;
-    }
-    let mut done: u64 = 0;
-    let mut bound: u64 = 0;
-    let mut differences: u64 = 0;
-    while done < cases {
-        let told = file::next(fd);
-        if !told.is_whole {
-            say_damage(done);
-            return;
-        }
-        if told.differs {
-            say_difference(done, told.answer);
-        }
-        bound += one(told.answer == 0);
-        differences += one(told.differs);
-        done += 1;
-    }
-    if !file::is_at_end(fd) {
-        say_damage(done);
-        return;
-    }
-    say_counts(cases, bound, differences);
+// The record's name is its file's.
+fn replay_in(name: &[u8], of: Of, space: &mut [u8]) {
+    let n = read(name, space);
+    say_all(name, of, replayed(&space[..n], of));
+}
+
+// An array's length is its type's: lent as a slice by `main`, it would be counted byte by byte in the proof.
+fn replay(name: &[u8], of: Of, space: &mut [u8; 1048576]) {
+    replay_in(name, of, space);
 }
 
 fn main() {
-    let path = b"record";
-    let fd = os::open_read(path);
-    if fd < 0 {
-        os::fail(path);
-        return;
-    }
-    replay(fd, file::cases(fd));
-    libc::close(fd);
+    let mut space = [0u8; 1048576];
+    replay(b"binds", Of::Binds, &mut space);
+    replay(b"runs", Of::Runs, &mut space);
 }

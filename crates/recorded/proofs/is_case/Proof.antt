@@ -5,6 +5,7 @@ use Prim.Native.Nat.{ℕ}
 use native.Mathlib.Omega.{arith}
 use lib.Dec.{leb}
 use denote.Ref.{now}
+use Rattle.recorded.specs.Layout.{most}
 use Rattle.recorded.specs.Cases.{case-headless, case-cut, case-there}
 use borrow.Author.Needs.{needs}
 use Rattle.recorded.proofs.is_case.Statement.{statement}
@@ -31,7 +32,7 @@ size-requires c κs = search needs
 returns-3 : tie.Need-returns-3
 returns-3 c =
     let s = c .before .before .before .before .before in
-    ap (λ (n : ℕ). leb n 1500) (c .size .ensures .is)
+    ap (λ (n : ℕ). leb n most) (c .size .ensures .is)
     ∙ case-there (s .args .k) (now (s .args .s)) (omega arith) (omega (arith, c .before .before .starts .ensures))
 
 pub is-case-spec : {M : Type 1} → statement M

@@ -88,7 +88,7 @@ fn take_bytes<'a>(bytes: &mut &'a [u8], length: usize) -> &'a [u8] {
 
 #[test]
 fn the_record_in_the_repository_is_what_the_rust_answers() {
-    let file = std::fs::read(concat!(env!("CARGO_MANIFEST_DIR"), "/../../../crates/replay/data/record")).unwrap();
+    let file = std::fs::read(concat!(env!("CARGO_MANIFEST_DIR"), "/../../../crates/replay/data/binds")).unwrap();
     let bytes = &mut file.as_slice();
     let cases = take_number(bytes);
     for index in 0..cases {

@@ -1,12 +1,12 @@
--- `rerun::differs_in` meets its contract: what `run` leaves is compared with the record.
+-- `recorded::replaying::run_differs` meets its contract: what `run` leaves is compared with the record.
 -- Assumes nothing.
 use native.Mathlib.Omega.{arith}
 use borrow.Author.Needs.{needs}
 use denote.Ref.{now}
 use Rattle.recorded.specs.Cases.{case-head}
-use Rattle.rerun.specs.Told.{differs-told}
-use Rattle.rerun.proofs.differs_in.Statement.{statement}
-use Rattle.rerun.proofs.differs_in.Tie as tie
+use Rattle.recorded.specs.Told.{run-told}
+use Rattle.recorded.proofs.replaying.run_differs.Statement.{statement}
+use Rattle.recorded.proofs.replaying.run_differs.Tie as tie
 
 part-requires : tie.Need-part-requires
 part-requires c κs = search needs
@@ -37,11 +37,11 @@ same-length c = search needs
 returns : tie.Need-returns
 returns c =
     let a = c .before .before .before .before .before .before .before .before .before .before .before .before .before .before in
-    differs-told (now (a .args .s)) (c .before .before .before .before .before .before .before .before .before .before .part .ensures) (c .before .before .before .before .before .before .before .before .before .part2 .ensures) (c .before .before .before .before .before .before .before .before .part3 .ensures) (c .before .before .part4 .ensures) (a .pre .1) (a .pre .2)
+    run-told (now (a .args .s)) (c .before .before .before .before .before .before .before .before .before .before .part .ensures) (c .before .before .before .before .before .before .before .before .before .part2 .ensures) (c .before .before .before .before .before .before .before .before .part3 .ensures) (c .before .before .part4 .ensures) (a .pre .1) (a .pre .2)
     (c .before .before .before .before .before .before .run .ensures) (omega (arith, c .before .before .before .before .before .before .run)) (c .agrees .ensures)
 
-pub differs-in-spec : {M : Type 1} → statement M
-differs-in-spec =
+pub run-differs-spec : {M : Type 1} → statement M
+run-differs-spec =
     tie.close
     (tie.spec
     part-requires

@@ -1,0 +1,83 @@
+// A record replayed: each case is bound or run here, and the cases whose answer is not the expected one are counted.
+use crate::Of;
+use crate::Replayed;
+use crate::agrees;
+use crate::case_length;
+use crate::counted;
+use crate::ended;
+use crate::is_case;
+use crate::nothing;
+use crate::part;
+use crate::parts;
+use crate::size;
+use crate::untouched;
+use runner::run;
+use sirklemet::bind;
+ghost use mathlib.Core.Bool.{true};
+ghost use mathlib.Core.Path.{_≡_};
+ghost use lib.ListN.{length};
+ghost use Rattle.recorded.specs.declared.Of.the-variants as of;
+ghost use Rattle.recorded.specs.Layout.{room, isCase};
+ghost use Rattle.recorded.specs.Differs.{partsOf, differs};
+ghost use Rattle.recorded.specs.Counts.{Replays};
+
+// Over an output as long as the case says, which still holds `before`.
+fn bind_differs(s: &[u8], before: &[u8], out: &mut [u8]) -> bool
+    requires { ⌜ (isCase 3 (now s) ≡ true) × (now out ≡ now before) × (length (now before) ≡ room (now s)) ⌝ }
+    ensures { λ r. ⌜ r ≡ differs of.Binds (now (s .entry)) ⌝ }
+{
+    let heard = bind(part(s, 3, 0), part(s, 3, 1), out);
+    !agrees(heard, s[0], part(s, 3, 2), before, out)
+}
+
+fn run_differs(s: &[u8], before: &[u8], out: &mut [u8]) -> bool
+    requires { ⌜ (isCase 4 (now s) ≡ true) × (now out ≡ now before) × (length (now before) ≡ room (now s)) ⌝ }
+    ensures { λ r. ⌜ r ≡ differs of.Runs (now (s .entry)) ⌝ }
+{
+    let heard = run(part(s, 4, 0), part(s, 4, 1), part(s, 4, 2), out);
+    !agrees(heard, s[0], part(s, 4, 3), before, out)
+}
+
+fn differs_in(s: &[u8], of: Of, before: &[u8], out: &mut [u8]) -> bool
+    requires { ⌜ (isCase (partsOf of) (now s) ≡ true) × (now out ≡ now before) × (length (now before) ≡ room (now s)) ⌝ }
+    ensures { λ r. ⌜ r ≡ differs of (now (s .entry)) ⌝ }
+{
+    match of {
+        Of::Binds => bind_differs(s, before, out),
+        Of::Runs => run_differs(s, before, out),
+    }
+}
+
+// Whether the case at the front has another answer than the expected one.
+fn differs(s: &[u8], of: Of) -> bool
+    requires { ⌜ isCase (partsOf of) (now s) ≡ true ⌝ }
+    ensures { λ r. ⌜ r ≡ differs of (now (s .entry)) ⌝ }
+{
+    let end = size(s, 1);
+    let before = untouched();
+    let mut out = before;
+    differs_in(s, of, &before[..end], &mut out[..end])
+}
+
+pub fn replayed(bytes: &[u8], of: Of) -> Replayed
+    ensures { λ r. ⌜ Replays (differs of) (partsOf of) (now (bytes .entry)) r ⌝ }
+{
+    if bytes.len() < 4 {
+        return ended(false, nothing());
+    }
+    let k = parts(of);
+    let mut tally = nothing();
+    let mut left = size(bytes, 0);
+    let start = 4;
+    let mut rest = &bytes[start..];
+    while 0 < left {
+        if !is_case(rest, k) {
+            return ended(false, tally);
+        }
+        tally = counted(tally, rest[0], differs(rest, of));
+        let end = case_length(rest, k);
+        rest = &rest[end..];
+        left -= 1;
+    }
+    ended(rest.len() == 0, tally)
+}

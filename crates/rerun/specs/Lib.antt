@@ -1,2 +1,0 @@
-pub mod Differs
-pub mod Told
