@@ -17,6 +17,11 @@ ghost use Rattle.recorded.specs.Counts.{bit, isOther, added, none, repla
 // The longest room of a case.
 const MOST: usize = 4500;
 
+// Of a case.
+const BIND_PARTS: usize = 3;
+
+const RUN_PARTS: usize = 4;
+
 // What a record is of: statements bound, or run on a row.
 pub enum Of {
     Binds,
@@ -38,13 +43,12 @@ pub struct Replayed {
     pub tally: Tally,
 }
 
-// Of a case.
 fn parts(of: Of) -> usize
     ensures { λ r. ⌜ (r ≡ partsOf of) × (r ≤ 4) ⌝ }
 {
     match of {
-        Of::Binds => 3,
-        Of::Runs => 4,
+        Of::Binds => BIND_PARTS,
+        Of::Runs => RUN_PARTS,
     }
 }
 

@@ -1,5 +1,7 @@
 // A record replayed: each case is bound or run here, and the cases whose answer is not the expected one are counted.
+use crate::BIND_PARTS;
 use crate::Of;
+use crate::RUN_PARTS;
 use crate::Replayed;
 use crate::agrees;
 use crate::case_length;
@@ -21,21 +23,26 @@ ghost use Rattle.recorded.specs.Layout.{room, isCase};
 ghost use Rattle.recorded.specs.Differs.{partsOf, differs};
 ghost use Rattle.recorded.specs.Counts.{Replays};
 
-// Over an output as long as the case says, which still holds `before`.
+// These three are over an output as long as the case says, which still holds `before`.
 fn bind_differs(s: &[u8], before: &[u8], out: &mut [u8]) -> bool
     requires { ⌜ (isCase 3 (now s) ≡ true) × (now out ≡ now before) × (length (now before) ≡ room (now s)) ⌝ }
     ensures { λ r. ⌜ r ≡ differs of.Binds (now (s .entry)) ⌝ }
 {
-    let heard = bind(part(s, 3, 0), part(s, 3, 1), out);
-    !agrees(heard, s[0], part(s, 3, 2), before, out)
+    let heard = bind(part(s, BIND_PARTS, 0), part(s, BIND_PARTS, 1), out);
+    !agrees(heard, s[0], part(s, BIND_PARTS, 2), before, out)
 }
 
 fn run_differs(s: &[u8], before: &[u8], out: &mut [u8]) -> bool
     requires { ⌜ (isCase 4 (now s) ≡ true) × (now out ≡ now before) × (length (now before) ≡ room (now s)) ⌝ }
     ensures { λ r. ⌜ r ≡ differs of.Runs (now (s .entry)) ⌝ }
 {
-    let heard = run(part(s, 4, 0), part(s, 4, 1), part(s, 4, 2), out);
-    !agrees(heard, s[0], part(s, 4, 3), before, out)
+    let heard = run(
+        part(s, RUN_PARTS, 0),
+        part(s, RUN_PARTS, 1),
+        part(s, RUN_PARTS, 2),
+        out,
+    );
+    !agrees(heard, s[0], part(s, RUN_PARTS, 3), before, out)
 }
 
 fn differs_in(s: &[u8], of: Of, before: &[u8], out: &mut [u8]) -> bool

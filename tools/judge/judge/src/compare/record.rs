@@ -12,6 +12,9 @@ use crate::judge::{Answer, Verdict};
 /// No image of a recorded case is longer, so that a program replays it over a small buffer.
 const LONGEST: usize = 1_500;
 
+/// The most room that the program lends for an answer (`most` of crates/recorded/specs/Layout.antt).
+const MOST_ROOM: usize = 4_500;
+
 /// The record's bytes, and for people what it holds.
 pub struct Record {
     pub bytes: Vec<u8>,
@@ -44,7 +47,7 @@ pub fn record(seed: u64, count: usize) -> Result<Record, String> {
 
 fn is_short(case: &Case, verdict: &Verdict) -> bool {
     let answer = bound_bytes(&verdict.answer).len();
-    case.statement.len().max(case.catalogue.len()).max(answer) <= LONGEST
+    case.statement.len().max(case.catalogue.len()).max(answer) <= LONGEST && case.room <= MOST_ROOM
 }
 
 fn bound_bytes(answer: &Answer) -> &[u8] {
