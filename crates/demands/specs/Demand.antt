@@ -21,9 +21,9 @@ use Rattle.rules.specs.Evaluate.{worked, fault, updateRow}
 use Rattle.rules.specs.Heard.{Read, judgedStatement, ranStatement}
 use Rattle.rules.specs.Demand.{Taken, Room}
 use Rattle.row.specs.Layout as row
-use Rattle.sirklemet.specs.declared.Reply.{Reply}
+use Rattle.reply.specs.declared.Reply.{Reply}
 use Rattle.receiving.specs.Entry.{readStatement, readCatalogue, boundSize, rowSize, bindBytes, runBytes}
-use Rattle.sirklemet.specs.Leaves.{Leaves}
+use Rattle.reply.specs.Leaves.{Leaves}
 
 -- ---- what a caller hears: the contracts of `sirklemet::bind` and `runner::run`
 

@@ -4,8 +4,8 @@ use mathlib.Core.Path.{_≡_, sym, _∙_}
 use mathlib.Core.List.{List}
 use Prim.Native.Nat.{ℕ}
 use Rattle.rules.specs.Heard.{Outcome}
-use Rattle.sirklemet.specs.declared.Reply.{Reply}
-use Rattle.sirklemet.specs.Leaves.{Leaves}
+use Rattle.reply.specs.declared.Reply.{Reply}
+use Rattle.reply.specs.Leaves.{Leaves}
 
 -- "if two outcomes could satisfy it they are proved identical": the reply and every byte of the output are determined
 pub one-reply : {o : Outcome (List ℕ)} {old new new′ : List ℕ} {r r′ : Reply} → Leaves o old r new → Leaves o old r′ new′

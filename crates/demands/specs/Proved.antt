@@ -3,7 +3,7 @@
 use mathlib.Core.Path.{_≡_, sym, ap, _∙_}
 use mathlib.Core.Bool.{true}
 use mathlib.Core.List.{List}
-use mathlib.Core.Logic.{_⊎_, ⊎-elim, _↔_}
+use mathlib.Core.Logic.{⊎-elim, _↔_}
 use mathlib.Core.Option.{some}
 use Prim.Native.Nat.{ℕ}
 use native.Mathlib.Omega.{arith}
@@ -16,10 +16,10 @@ use Rattle.rules.specs.Statements.{Expr, Update}
 use Rattle.rules.specs.Tables.{TableSchema}
 use Rattle.rules.specs.Theorems.Demand.{demand}
 use Rattle.row.specs.Layout as row
-use Rattle.sirklemet.specs.declared.Reply.{Reply}
-use Rattle.receiving.specs.Entry.{refusal, written, held}
+use Rattle.reply.specs.declared.Reply.{Reply}
 use Rattle.demands.specs.Answered.{answers-exactly, Faults, Comes, faults-or-comes}
-use Rattle.demands.specs.Demand.{TakenBytes, RoomToBind, RoomToRun, BindReplies, RunReplies, Yields, Runs, Demand}
+use Rattle.demands.specs.Demand.{TakenBytes, RoomToBind, RoomToRun, BindReplies, RunReplies, Runs, Demand}
+use Rattle.reply.specs.Leaves.{refusal, written, held}
 use Rattle.demands.specs.Zero.{zero-answers}
 
 module _ {s c : List ℕ} {u : Update} {t : TableSchema} {w : Expr} (h : TakenBytes s c u t w) where

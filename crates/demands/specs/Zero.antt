@@ -18,8 +18,9 @@ use Rattle.rules.specs.Limits.{statementWithin, catalogueWithin, namesBeyondAsc
 use Rattle.rules.specs.Heard.{Outcome, refuses, answers, Read, next, classNo, heard, received, judgedStatement, fitted, bindOutcome}
 use Rattle.rules.specs.Demand.{Answers}
 use Rattle.rules.specs.Theorems.Steps.{never-answers}
-use Rattle.receiving.specs.Entry.{readStatement, readCatalogue, boundSize, bindBytes, refusal}
-use Rattle.sirklemet.specs.Binds.{bytesOf}
+use Rattle.reply.specs.Leaves.{refusal}
+use Rattle.receiving.specs.Entry.{readStatement, readCatalogue, boundSize, bindBytes}
+use Rattle.putting.specs.Binds.{bytesOf}
 
 class-not-zero : (k : Class) → classNo k ≡ 0 → ⊥
 class-not-zero SchemaMismatch e = omega arith

@@ -7,7 +7,7 @@ ghost use Rattle.statement.specs.Layout.{statement};
 ghost use Rattle.catalogue.specs.Layout.{catalogue};
 ghost use Rattle.row.specs.Layout.{row};
 ghost use Rattle.receiving.specs.Entry.{bindBytes, runBytes};
-ghost use Rattle.sirklemet.specs.Leaves.{Leaves, reply};
+ghost use Rattle.reply.specs.Leaves.{Leaves, reply};
 ghost use Rattle.receiving.specs.Told.{toldOfStatement, toldOfCatalogue};
 ghost use Rattle.faces.specs.Told.{toldObeys};
 

@@ -1,16 +1,15 @@
--- What the public operations answer, for every string of bytes, and what the output then holds. The images are read by their layouts, judged by the
--- rules, and the answer is written by its layout.
+-- What the public operations answer, for every string of bytes. The images are read by their layouts, judged by the rules, and the answer is
+-- written by its layout; `reply` has what the output then holds.
 -- Assumes nothing: these are definitions.
-use mathlib.Core.Path.{_≡_}
-use mathlib.Core.Option.{Option, none, some, Option·map}
-use mathlib.Core.List.{List, [], _∷_, _++_}
+use mathlib.Core.Option.{Option, Option·map}
+use mathlib.Core.List.{List}
 use Prim.Native.Nat.{ℕ}
-use lib.ListN.{length, drop}
+use lib.ListN.{length}
 use Rattle.rules.specs.Tables.{Catalogue}
 use Rattle.rules.specs.Statements.{Statement}
 use Rattle.rules.specs.Bound.{BoundStatement}
 use Rattle.rules.specs.Rows.{Row}
-use Rattle.rules.specs.Heard.{Outcome, refuses, answers, Read, next, bindOutcome, runOutcome}
+use Rattle.rules.specs.Heard.{Outcome, answers, Read, next, bindOutcome, runOutcome}
 use Rattle.statement.specs.Layout as statement
 use Rattle.catalogue.specs.Layout as catalogue
 use Rattle.row.specs.Layout as row
@@ -40,18 +39,3 @@ bindBytes s c room = next (bindOutcome boundSize room (readStatement s) (readCat
 
 unfoldable pub runBytes : List ℕ → List ℕ → List ℕ → ℕ → Outcome (List ℕ)
 runBytes s c r room = next (runOutcome rowSize room (readStatement s) (readCatalogue c) (row.decode r)) (λ new. answers (row.encode new))
-
--- ---- "A refusal answers its number with length 0, and the output holds the bytes it held before. Success answers the length written; bytes past
--- it stay."
-
-abbrev pub refusal : {A : Type 0} → Outcome A → ℕ
-refusal (refuses k) = k
-refusal (answers a) = 0
-
-abbrev pub written : Outcome (List ℕ) → ℕ
-written (refuses k) = 0
-written (answers b) = length b
-
-abbrev pub held : Outcome (List ℕ) → List ℕ → List ℕ
-held (refuses k) old = old
-held (answers b) old = b ++ drop (length b) old

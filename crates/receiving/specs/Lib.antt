@@ -1,2 +1,3 @@
 pub mod Entry
 pub mod Told
+pub mod Received

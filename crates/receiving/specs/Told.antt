@@ -14,12 +14,13 @@ use Rattle.bundle.specs.Held.{Holds}
 use Rattle.rules.specs.Tables.{Catalogue}
 use Rattle.rules.specs.Statements.{Statement}
 use Rattle.rules.specs.Limits.{statementWithin, catalogueWithin, namesBeyondAscii}
-use Rattle.rules.specs.Heard.{Outcome, refuses, answers, received}
+use Rattle.rules.specs.Heard.{refuses, answers, received}
 use Rattle.statement.specs.Layout as statement-layout
 use Rattle.statement.specs.Layout.{statement}
 use Rattle.catalogue.specs.Layout as catalogue-layout
 use Rattle.catalogue.specs.Layout.{catalogue}
-use Rattle.receiving.specs.Entry.{sized, readStatement, readCatalogue, refusal}
+use Rattle.reply.specs.Leaves.{refusal}
+use Rattle.receiving.specs.Entry.{sized, readStatement, readCatalogue}
 
 -- 5, then 7, then 8
 abbrev pub ofStatement : ℕ → Option Statement → ℕ

@@ -11,9 +11,8 @@ use lib.ListN.{length, take, drop, length-append, length-drop}
 use lib.Seq.{take-all, take-at, drop-at}
 use Rattle.rules.specs.Heard.{Outcome, refuses, answers}
 use Rattle.rules.specs.Lists.{same}
-use Rattle.sirklemet.specs.declared.Reply.{Reply}
-use Rattle.receiving.specs.Entry.{refusal, written, held}
-use Rattle.sirklemet.specs.Leaves.{Leaves}
+use Rattle.reply.specs.declared.Reply.{Reply}
+use Rattle.reply.specs.Leaves.{refusal, written, held, Leaves}
 
 -- ---- of an outcome: the record has its number, 0 where there is an answer, and the answer's bytes, none where it is refused
 

@@ -6,9 +6,9 @@ use mathlib.Core.List.{List}
 use Prim.Native.Nat.{ℕ}
 use lib.ListN.{length}
 use Rattle.rules.specs.Heard.{Outcome}
-use Rattle.sirklemet.specs.declared.Reply.{Reply}
+use Rattle.reply.specs.declared.Reply.{Reply}
 use Rattle.receiving.specs.Entry.{bindBytes, runBytes}
-use Rattle.sirklemet.specs.Leaves.{Leaves}
+use Rattle.reply.specs.Leaves.{Leaves}
 use Rattle.recorded.specs.declared.Of.the-variants.{Binds, Runs}
 use Rattle.recorded.specs.Layout.{answer, room, part}
 use Rattle.recorded.specs.Agrees.{isRecorded, agreeing, agreeing-is}

@@ -3,7 +3,7 @@
 pub mod replaying;
 pub mod said;
 
-use sirklemet::Reply;
+use reply::Reply;
 ghost use mathlib.Core.Bool.{true};
 ghost use mathlib.Core.Path.{_≡_};
 ghost use Prim.Native.Nat.{_+_, _*_, _≤_, _<_};

@@ -1,5 +1,3 @@
 pub mod Asked
 pub mod Runs
 pub mod Stands
-pub mod Ready
-pub mod Rows

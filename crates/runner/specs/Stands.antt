@@ -8,7 +8,7 @@ use Prim.Native.Nat.{ℕ, _-_, _≤_}
 use borrow.Author.Tests.{leb-true}
 use lib.ListN.{length, take, drop}
 use Rattle.bundle.specs.Decides.{and-of}
-use Rattle.bundle.specs.Held.{Is, Holds, is-held, held-once}
+use Rattle.bundle.specs.Held.{Holds, held-once}
 use Rattle.catalogue.specs.Layout as catalogue-layout
 use Rattle.catalogue.specs.Layout.{table, catalogue}
 use Rattle.reader.specs.Held.{KindHolds}
@@ -29,10 +29,12 @@ use Rattle.statement.specs.Layout as statement-layout
 use Rattle.statement.specs.Layout.{updating, statement}
 use Rattle.analyzer.specs.Dispatch.{update-limited}
 use Rattle.analyzer.specs.Kinds.{Behind}
+use Rattle.analyzer.specs.Within.{statement-within}
 use Rattle.updated.specs.Given.{given-same}
 use Rattle.updating.specs.Within.{Limited}
 use Rattle.receiving.specs.Entry.{sized, readStatement, readCatalogue}
-use Rattle.sirklemet.specs.Binds.{Received, statement-within}
+use Rattle.receiving.specs.Received.{Received}
+use Rattle.onrow.specs.Ready.{Over}
 use Rattle.runner.specs.Asked.{Dispatched}
 
 -- ---- the table is within the limits
@@ -105,26 +107,13 @@ module _ {s c b : List ℕ} (h : Received s c) {u : Running} (r : Dispatched (h 
     within = tables-within (length c) (h .tables) (catalogue-received h);
     change = r .change;
     reads = subst (λ (x : Kind). KindHolds x b) (r .is) (body (h .value) (h .holds));
-    limited = update-limited (statement-within h) behind .1;
+    limited = update-limited (statement-within (h .holds) (h .within)) behind .1;
     resolves = r .resolves;
     filters = r .filters;
     assigns = r .assigns;
   }
 
--- ---- over its table t
-
-pub record Over (t b : List ℕ) (u : Running) : Type 0 where
-  pub holds : Holds table t (u .table)
-  pub few : length (u .table .columns) ≤ 64
-  pub change : Update
-  pub reads : Holds updating b change
-  pub limited : Limited b
-  pub filters : change .condition ≡ some (u .condition)
-  pub assigns : change .assignments ≡ u .assignments
-
-pub record SomeOver (t b : List ℕ) : Type 0 where
-  pub value : Running
-  pub is : Over t b value
+-- ---- over its table
 
 pub stands-over : {c b : List ℕ} {u : Running} (z : Stands c b u) {i e : ℕ} → TableGiven c (resolveDirectTable (z .tables) (z .change .table)) i e
     → Over (take (e - i) (drop i c)) b u

@@ -1,17 +1,13 @@
-// The public operation `run`: an UPDATE run on one row. `specs/Entry.antt` of `receiving` has what it answers and what its output then holds.
+// The public operation `run`: an UPDATE run on one row. `receiving` has what it answers on bytes, `reply` what its output then holds.
 use analyzer::analyze;
+use onrow::run_over;
 use receiving::received;
+use reply::Reply;
+use reply::class_number;
+use reply::refused;
 use resolving::Measured;
 use resolving::Resolved;
 use resolving::resolve_direct_table;
-use running::Ran;
-use running::row_size;
-use running::write_row;
-use sirklemet::Reply;
-use sirklemet::class_number;
-use sirklemet::refused;
-use update::assignments;
-use update::condition_of;
 use update::table_of;
 ghost use mathlib.Core.Path.{_≡_};
 ghost use lib.ListN.{length};
@@ -25,13 +21,11 @@ ghost use Rattle.rules.specs.Heard.{Running};
 ghost use Rattle.rules.specs.Statements.{Statement};
 ghost use Rattle.rules.specs.Tables.{Catalogue};
 ghost use Rattle.statement.specs.Layout.{statement};
+ghost use Rattle.reply.specs.Leaves.{Leaves};
 ghost use Rattle.receiving.specs.Entry.{runBytes};
-ghost use Rattle.sirklemet.specs.Leaves.{Leaves};
-ghost use Rattle.running.specs.Updates.{Runnable};
-ghost use Rattle.runner.specs.Ready.{Holding};
-ghost use Rattle.runner.specs.Rows.{RowSized};
-ghost use Rattle.runner.specs.Runs.{updateBytes, BoundBy};
-ghost use Rattle.runner.specs.Stands.{Stands, SomeStands, Over, SomeOver};
+ghost use Rattle.onrow.specs.OnRow.{updateBytes};
+ghost use Rattle.runner.specs.Runs.{BoundBy};
+ghost use Rattle.runner.specs.Stands.{Stands, SomeStands};
 
 // Whether a bound statement is an UPDATE by 01's dispatch: the raw text first, then the kind.
 fn runnable(s: &[u8]) -> bool
@@ -43,53 +37,6 @@ fn runnable(s: &[u8]) -> bool
         return false;
     }
     reader::kind_code(s) == 3
-}
-
-// A row whose image is this long: 9, or the image. Nothing is written before there is room for all of it.
-fn put_row<'a>(
-    t: &'a [u8],
-    list: &'a [u8],
-    w: &'a [u8],
-    r: &'a [u8],
-    out: &mut [u8],
-    size: usize,
-) -> Reply
-    requires { ⌜ RowSized (now t) (now list) (now w) (now r) size ⌝ }
-    ensures { λ k. ⌜ ((u : Running) → Holding (now (t .entry)) (now (list .entry)) (now (w .entry)) u
-        → Leaves (updateBytes u (now (r .entry)) (length (now (out .entry)))) (now (out .entry)) k (now (out .exit))) ⌝ }
-{
-    if out.len() < size {
-        return refused(9);
-    }
-    let written = write_row(t, list, w, r, out);
-    Reply {
-        refusal: 0,
-        length: written,
-    }
-}
-
-// On a row that obeys the table: 11 before 9.
-fn run_row<'a>(t: &'a [u8], list: &'a [u8], w: &'a [u8], r: &'a [u8], out: &mut [u8]) -> Reply
-    requires { ⌜ Runnable (now t) (now list) (now w) (now r) ⌝ }
-    ensures { λ k. ⌜ ((u : Running) → Holding (now (t .entry)) (now (list .entry)) (now (w .entry)) u
-        → Leaves (updateBytes u (now (r .entry)) (length (now (out .entry)))) (now (out .entry)) k (now (out .exit))) ⌝ }
-{
-    match row_size(t, list, w, r) {
-        Ran::Is(size) => put_row(t, list, w, r, out, size),
-        Ran::Fault => refused(11),
-    }
-}
-
-// Over its table: 10 before the row is looked into.
-fn run_over<'a>(t: &'a [u8], b: &'a [u8], r: &'a [u8], out: &mut [u8]) -> Reply
-    requires { ⌜ SomeOver (now t) (now b) ⌝ }
-    ensures { λ k. ⌜ ((u : Running) → Over (now (t .entry)) (now (b .entry)) u
-        → Leaves (updateBytes u (now (r .entry)) (length (now (out .entry)))) (now (out .entry)) k (now (out .exit))) ⌝ }
-{
-    if !row::obeys(r, t) {
-        return refused(10);
-    }
-    run_row(t, assignments(b), condition_of(b), r, out)
 }
 
 // An UPDATE, which names its table.

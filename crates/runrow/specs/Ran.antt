@@ -3,7 +3,7 @@
 -- Assumes nothing.
 use mathlib.Core.Path.{_≡_, sym, ap, ap₂, _∙_, subst}
 use mathlib.Core.Bool.{Bool, cond, _||_}
-use mathlib.Core.List.{List, _++_}
+use mathlib.Core.List.{List}
 use Prim.Native.Nat.{ℕ, _≤_, _<_}
 use native.Mathlib.Omega.{arith}
 use borrow.Author.Tests.{lt-ltb, le-ltb}
@@ -11,9 +11,9 @@ use lib.Dec.{ltb}
 use lib.ListN.{length, take, drop, length-append}
 use lib.Seq.{take-append-seam, length-take-le}
 use Rattle.rules.specs.Heard.{Outcome, refuses, answers}
-use Rattle.sirklemet.specs.declared.Reply.{Reply}
-use Rattle.receiving.specs.Entry.{runBytes, refusal, written, held}
-use Rattle.sirklemet.specs.Leaves.{Leaves, reply, leaves-as-it-was}
+use Rattle.reply.specs.declared.Reply.{Reply}
+use Rattle.receiving.specs.Entry.{runBytes}
+use Rattle.reply.specs.Leaves.{refusal, Leaves, reply, leaves-as-it-was}
 use Rattle.runrow.specs.Zero.{Numbered, test-numbered, run-numbered}
 
 abbrev pub most : ℕ

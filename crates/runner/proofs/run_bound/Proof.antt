@@ -3,9 +3,9 @@
 use Rattle.bundle.specs.Decides.{failed, passed}
 use Rattle.bundle.specs.Held.{is-held}
 use Rattle.statement.specs.Layout as layout
-use Rattle.sirklemet.specs.Leaves.{leaves-as-it-was}
+use Rattle.reply.specs.Leaves.{leaves-as-it-was, leaves-same}
 use Rattle.runner.specs.Asked.{Asked, runnable-is}
-use Rattle.runner.specs.Runs.{leaves-same, run-no-update, run-update}
+use Rattle.runner.specs.Runs.{run-no-update, run-update}
 use Rattle.runner.specs.Stands.{stands}
 use borrow.Author.Needs.{needs}
 use Rattle.runner.proofs.run_bound.Statement.{statement}

@@ -1,76 +1,34 @@
 -- What `bindBytes` answers, case by case, as the code finds out: a refusal before the rules are asked, then the rules' own, then 9, then the bytes.
 -- Assumes nothing.
-use mathlib.Core.Path.{_≡_, refl, sym, ap, ap₂, _∙_}
-use mathlib.Core.Bool.{Bool, true, false, cond, not, _&&_}
+use mathlib.Core.Path.{_≡_, refl, sym, ap, _∙_}
+use mathlib.Core.Bool.{Bool, cond}
 use mathlib.Core.List.{List}
-use mathlib.Core.Option.{Option, none, some, Option·map}
 use Prim.Native.Nat.{ℕ, _≤_, _<_}
 use native.Mathlib.Omega.{arith}
 use borrow.Author.Tests.{le-leb, lt-leb}
 use lib.Dec.{leb}
 use lib.ListN.{length}
 use Rattle.wire.specs.Sets.{Wrote}
-use Rattle.bundle.specs.Held.{Holds, is-held, held-once}
+use Rattle.bundle.specs.Held.{Holds}
 use Rattle.rules.specs.declared.Refusal.{Refusal}
 use Rattle.rules.specs.Tables.{Catalogue}
 use Rattle.rules.specs.Statements.{Statement}
 use Rattle.rules.specs.Bound.{BoundStatement}
 use Rattle.rules.specs.Answers.{Answer, given, refused}
 use Rattle.rules.specs.Analyze.{analyze}
-use Rattle.rules.specs.Limits.{statementWithin, catalogueWithin, namesBeyondAscii}
 use Rattle.rules.specs.Heard.{Outcome, refuses, answers, next, classNo, heard, received, judgedStatement, fitted, bindOutcome}
-use Rattle.statement.specs.Layout as statement-layout
 use Rattle.statement.specs.Layout.{statement}
-use Rattle.catalogue.specs.Layout as catalogue-layout
 use Rattle.catalogue.specs.Layout.{catalogue}
 use Rattle.resolving.specs.declared.Measured.the-variants as measured
 use Rattle.resolving.specs.Told as resolving
 use Rattle.resolving.specs.Steps.{Sized, sized-is}
 use Rattle.resolving.specs.Room.{Bindable, bindable}
-use Rattle.analyzer.specs.Within.{StatementWithin}
 use Rattle.bound.specs.Layout as bound
 use Rattle.bound.specs.Layout.{boundStatement}
-use Rattle.receiving.specs.Entry.{sized, readStatement, readCatalogue, boundSize, bindBytes, refusal}
+use Rattle.reply.specs.Leaves.{refusal, Leaves, reply, leaves-written}
+use Rattle.receiving.specs.Entry.{readStatement, readCatalogue, boundSize, bindBytes}
 use Rattle.receiving.specs.Told.{toldOfBoth}
-use Rattle.sirklemet.specs.Leaves.{Leaves, reply, leaves-written}
-
--- ---- both are received
-
--- what each holds; the rules are asked of these
-pub record Received (s c : List ℕ) : Type 0 where
-  pub value : Statement
-  pub tables : Catalogue
-  pub holds : Holds statement s value
-  pub lists : Holds catalogue c tables
-  pub within : statementWithin (length s) value ≡ true
-  pub asked : received (readStatement s) (readCatalogue c) ≡ answers (value, tables)
-
-module _ (s c : List ℕ) where
-  pub both-received : toldOfBoth s c ≡ 0 → Received s c
-  unfolding toldOfBoth readStatement readCatalogue statement-layout.decode catalogue-layout.decode
-  both-received h = go (statement .read s) (catalogue .read c) refl refl h
-    where
-      go : (m : Option Statement) (n : Option Catalogue) → statement .read s ≡ m → catalogue .read c ≡ n
-          → refusal (received (Option·map (sized s) m) (Option·map (sized c) n)) ≡ 0 → Received s c
-      go none n p q h = absurd (omega arith)
-      go (some v) none p q h = absurd (omega arith)
-      go (some v) (some t) p q h = cases (statementWithin (length s) v) (catalogueWithin (length c) t) (namesBeyondAscii v) refl refl refl h
-        where
-          cases : (w x b : Bool) → statementWithin (length s) v ≡ w → catalogueWithin (length c) t ≡ x → namesBeyondAscii v ≡ b
-              → refusal {A = Statement × Catalogue} (cond (not (w && x)) (refuses 7) (cond b (refuses 8) (answers (v, t)))) ≡ 0 → Received s c
-          cases true true false e f g h = record {
-            value = v;
-            tables = t;
-            holds = p;
-            lists = q;
-            within = e;
-            asked =
-                ap₂ (λ (m : Option Statement) (n : Option Catalogue). received (Option·map (sized s) m) (Option·map (sized c) n)) p q
-                ∙ simp (e, f, g);
-          }
-          cases true true true e f g h = absurd (omega arith)
-          cases true false b e f g h = absurd (omega arith)
-          cases false x b e f g h = absurd (omega arith)
+use Rattle.receiving.specs.Received.{Received}
 
 -- ---- the answer, case by case
 
@@ -112,13 +70,6 @@ module _ (s c : List ℕ) (room : ℕ) where
       bound-bytes l = bound-answered ∙ ap (λ (t : Bool). bytesOf (cond t (answers b) (refuses 9))) (le-leb (length (boundStatement .write b)) room l)
 
 -- ---- what the code knows on the way
-
--- what the analysis asks for
-pub statement-within : {s c : List ℕ} → Received s c → StatementWithin s
-statement-within {s} h = record {
-  is = is-held (h .holds);
-  within = λ v e. ap (λ (x : Statement). statementWithin (length s) x) (held-once statement e (h .holds)) ∙ h .within;
-}
 
 -- the bound statement's image is n bytes long
 pub record Measures (s c : List ℕ) (n : ℕ) : Type 0 where

@@ -1,11 +1,12 @@
--- `sirklemet::put` meets its contract: what was measured says whether there is room, and the writer writes just that.
+-- `putting::put` meets its contract: what was measured says whether there is room, and the writer writes just that.
 -- Assumes nothing.
 use borrow.Author.Needs.{needs}
 use native.Mathlib.Omega.{arith}
-use Rattle.sirklemet.specs.Binds.{statement-within, no-room, has-room, image-written}
-use Rattle.sirklemet.specs.Leaves.{leaves-as-it-was}
-use Rattle.sirklemet.proofs.put.Statement.{statement}
-use Rattle.sirklemet.proofs.put.Tie as tie
+use Rattle.analyzer.specs.Within.{statement-within}
+use Rattle.reply.specs.Leaves.{leaves-as-it-was}
+use Rattle.putting.specs.Binds.{no-room, has-room, image-written}
+use Rattle.putting.proofs.put.Statement.{statement}
+use Rattle.putting.proofs.put.Tie as tie
 
 refused-requires : tie.Need-refused-requires
 refused-requires c κs = search needs
@@ -16,7 +17,7 @@ returns c = leaves-as-it-was (no-room (c .before .before .before .before .before
 write-requires : tie.Need-write-requires
 write-requires c κs =
     let m = c .before .before .before .before .before .pre in
-    (statement-within (m .both), has-room m (omega (arith, c .before .if1 .left)))
+    (statement-within (m .both .holds) (m .both .within), has-room m (omega (arith, c .before .if1 .left)))
 
 same-length : tie.Need-same-length
 same-length c = search needs

@@ -1,11 +1,11 @@
--- `runner::put_row` meets its contract: what was measured says whether there is room, and the writer writes just that.
+-- `onrow::put_row` meets its contract: what was measured says whether there is room, and the writer writes just that.
 -- Assumes nothing.
 use native.Mathlib.Omega.{arith}
-use Rattle.sirklemet.specs.Leaves.{leaves-as-it-was}
-use Rattle.runner.specs.Rows.{row-no-room, row-written, row-writable}
+use Rattle.reply.specs.Leaves.{leaves-as-it-was}
+use Rattle.onrow.specs.Rows.{row-no-room, row-written, row-writable}
 use borrow.Author.Needs.{needs}
-use Rattle.runner.proofs.put_row.Statement.{statement}
-use Rattle.runner.proofs.put_row.Tie as tie
+use Rattle.onrow.proofs.put_row.Statement.{statement}
+use Rattle.onrow.proofs.put_row.Tie as tie
 
 refused-requires : tie.Need-refused-requires
 refused-requires c κs = search needs

@@ -1,10 +1,10 @@
--- `sirklemet::class_number` meets its contract: each class has its number.
+-- `reply::class_number` meets its contract: each class has its number.
 -- Assumes nothing.
 use mathlib.Core.Path.{sym, ap}
 use borrow.Author.Needs.{needs}
 use Rattle.rules.specs.Heard.{classNo}
-use Rattle.sirklemet.proofs.class_number.Statement.{statement}
-use Rattle.sirklemet.proofs.class_number.Tie as tie
+use Rattle.reply.proofs.class_number.Statement.{statement}
+use Rattle.reply.proofs.class_number.Tie as tie
 
 enum-told : tie.Need-enum-told
 enum-told c = search needs

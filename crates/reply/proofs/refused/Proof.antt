@@ -1,8 +1,8 @@
--- `sirklemet::refused` meets its contract.
+-- `reply::refused` meets its contract.
 -- Assumes nothing.
 use mathlib.Core.Path.{refl}
-use Rattle.sirklemet.proofs.refused.Statement.{statement}
-use Rattle.sirklemet.proofs.refused.Tie as tie
+use Rattle.reply.proofs.refused.Statement.{statement}
+use Rattle.reply.proofs.refused.Tie as tie
 
 returns : tie.Need-returns
 returns c = refl

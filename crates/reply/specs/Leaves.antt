@@ -8,8 +8,22 @@ use lib.ListN.{length, set, drop}
 use lib.Seq.{sets}
 use Rattle.wire.specs.Sets.{Wrote}
 use Rattle.rules.specs.Heard.{Outcome, refuses, answers}
-use Rattle.sirklemet.specs.declared.Reply.{Reply}
-use Rattle.receiving.specs.Entry.{refusal, written, held}
+use Rattle.reply.specs.declared.Reply.{Reply}
+
+-- ---- "A refusal answers its number with length 0, and the output holds the bytes it held before. Success answers the length written; bytes past
+-- it stay."
+
+abbrev pub refusal : {A : Type 0} → Outcome A → ℕ
+refusal (refuses k) = k
+refusal (answers a) = 0
+
+abbrev pub written : Outcome (List ℕ) → ℕ
+written (refuses k) = 0
+written (answers b) = length b
+
+abbrev pub held : Outcome (List ℕ) → List ℕ → List ℕ
+held (refuses k) old = old
+held (answers b) old = b ++ drop (length b) old
 
 -- r is the reply to an outcome o
 pub record Hears (o : Outcome (List ℕ)) (r : Reply) : Type 0 where
@@ -35,6 +49,10 @@ hears-same e h = record { number = h .number ∙ sym (ap refusal e); size = h .s
 
 pub leaves-as-it-was : {o : Outcome (List ℕ)} {old : List ℕ} {r : Reply} {k : ℕ} → o ≡ refuses k → r ≡ reply k 0 → Leaves o old r old
 leaves-as-it-was {old = old} e h = record { hears = hears-refusal e h; output = sym (ap (λ (x : Outcome (List ℕ)). held x old) e) }
+
+-- what is left by an outcome is left by the same one
+pub leaves-same : {o p : Outcome (List ℕ)} {old new : List ℕ} {r : Reply} → o ≡ p → Leaves p old r new → Leaves o old r new
+leaves-same {old = old} e l = record { hears = hears-same e (l .hears); output = l .output ∙ sym (ap (λ (x : Outcome (List ℕ)). held x old) e) }
 
 -- bytes written from the front are the front
 sets-behind : (l : List ℕ) (i a : ℕ) (x : List ℕ) → sets (a ∷ l) (suc i) x ≡ a ∷ sets l i x

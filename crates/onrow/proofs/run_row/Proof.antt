@@ -1,11 +1,11 @@
--- `runner::run_row` meets its contract: a fault, or what was measured.
+-- `onrow::run_row` meets its contract: a fault, or what was measured.
 -- Assumes nothing.
 use mathlib.Core.Path.{sym, _∙_}
-use Rattle.sirklemet.specs.Leaves.{leaves-as-it-was}
-use Rattle.runner.specs.Rows.{row-faults}
+use Rattle.reply.specs.Leaves.{leaves-as-it-was}
+use Rattle.onrow.specs.Rows.{row-faults}
 use borrow.Author.Needs.{needs}
-use Rattle.runner.proofs.run_row.Statement.{statement}
-use Rattle.runner.proofs.run_row.Tie as tie
+use Rattle.onrow.proofs.run_row.Statement.{statement}
+use Rattle.onrow.proofs.run_row.Tie as tie
 
 row-size-requires : tie.Need-row-size-requires
 row-size-requires c κs = c .before .before .before .before .before .pre

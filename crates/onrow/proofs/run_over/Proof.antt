@@ -1,16 +1,16 @@
--- `runner::run_over` meets its contract: whether the row obeys the table, and then what is written.
+-- `onrow::run_over` meets its contract: whether the row obeys the table, and then what is written.
 -- Assumes nothing.
 use borrow.Author.Tests.{not-false}
 use Rattle.bundle.specs.Decides.{failed}
 use Rattle.bundle.specs.Held.{is-held}
 use Rattle.catalogue.specs.Layout.{table}
 use Rattle.statement.specs.Layout.{updating}
-use Rattle.sirklemet.specs.Leaves.{leaves-as-it-was}
-use Rattle.runner.specs.Ready.{holding, ready}
-use Rattle.runner.specs.Runs.{update-no-row}
+use Rattle.reply.specs.Leaves.{leaves-as-it-was}
+use Rattle.onrow.specs.Ready.{holding, ready}
+use Rattle.onrow.specs.OnRow.{update-no-row}
 use borrow.Author.Needs.{needs}
-use Rattle.runner.proofs.run_over.Statement.{statement}
-use Rattle.runner.proofs.run_over.Tie as tie
+use Rattle.onrow.proofs.run_over.Statement.{statement}
+use Rattle.onrow.proofs.run_over.Tie as tie
 
 obeys-requires : tie.Need-obeys-requires
 obeys-requires c κs = is-held {f = table} (c .before .before .before .before .pre .is .holds)

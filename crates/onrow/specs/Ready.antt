@@ -1,25 +1,41 @@
--- What the row is made of, once its table is found and the row obeys it: the bytes of each part.
+-- What an UPDATE over its table stands on, and what the row is made of, once the row obeys the table: the bytes of each part.
 -- Assumes nothing.
 use mathlib.Core.Path.{_≡_, sym, ap, _∙_, subst}
 use mathlib.Core.Bool.{Bool, true}
 use mathlib.Core.List.{List}
-use mathlib.Core.Option.{Option, some}
+use mathlib.Core.Option.{some}
 use Prim.Native.Nat.{ℕ, _≤_}
 use lib.ListN.{length}
 use Rattle.codec.specs.Layout.{listOf}
-use Rattle.bundle.specs.Held.{Is, Holds, is-held, held-once}
+use Rattle.bundle.specs.Held.{Holds, is-held, held-once}
 use Rattle.catalogue.specs.Layout.{table}
 use Rattle.expression.specs.Expression.{expression}
 use Rattle.filtering.specs.There.{There, there-reads, there-short}
 use Rattle.row.specs.Layout.{row}
 use Rattle.row.specs.Obeyed.{obeyed}
 use Rattle.rules.specs.Heard.{Running}
-use Rattle.rules.specs.Statements.{Assignment, Expr, Update}
+use Rattle.rules.specs.Statements.{Update}
 use Rattle.rules.specs.Tables.{TableSchema}
 use Rattle.statement.specs.Layout.{condition, assignment, updating}
-use Rattle.updating.specs.Within.{update-assignments, update-condition}
+use Rattle.updating.specs.Within.{Limited, update-assignments, update-condition}
 use Rattle.running.specs.Updates.{Runnable}
-use Rattle.runner.specs.Stands.{Over}
+
+-- ---- an UPDATE over its table: t holds the table, b the body of the statement
+
+pub record Over (t b : List ℕ) (u : Running) : Type 0 where
+  pub holds : Holds table t (u .table)
+  pub few : length (u .table .columns) ≤ 64
+  pub change : Update
+  pub reads : Holds updating b change
+  pub limited : Limited b
+  pub filters : change .condition ≡ some (u .condition)
+  pub assigns : change .assignments ≡ u .assignments
+
+pub record SomeOver (t b : List ℕ) : Type 0 where
+  pub value : Running
+  pub is : Over t b value
+
+-- ---- its parts
 
 -- t holds the table, s the assignments, w the condition
 pub record Holding (t s w : List ℕ) (u : Running) : Type 0 where

@@ -1,9 +1,8 @@
 -- The new row, as the code finds it: a fault, or how long its image is; and then its bytes.
 -- Assumes nothing.
-use mathlib.Core.Path.{_≡_, refl, sym, ap, _∙_}
+use mathlib.Core.Path.{_≡_, refl, sym, _∙_}
 use mathlib.Core.Bool.{true}
 use mathlib.Core.List.{List}
-use mathlib.Core.Option.{some}
 use Prim.Native.Nat.{ℕ, _≤_, _<_}
 use native.Mathlib.Omega.{arith}
 use lib.ListN.{length}
@@ -23,9 +22,9 @@ use Rattle.statement.specs.Layout.{assignment}
 use Rattle.running.specs.declared.Ran.{Ran}
 use Rattle.running.specs.declared.Ran.the-variants as answer
 use Rattle.running.specs.Updates.{ran, Runnable, Writable, writable}
-use Rattle.sirklemet.specs.Leaves.{Leaves, reply, leaves-written}
-use Rattle.runner.specs.Ready.{Holding}
-use Rattle.runner.specs.Runs.{updateBytes, update-fault, update-no-room, update-bytes}
+use Rattle.reply.specs.Leaves.{Leaves, reply, leaves-written}
+use Rattle.onrow.specs.Ready.{Holding}
+use Rattle.onrow.specs.OnRow.{updateBytes, update-fault, update-no-room, update-bytes}
 
 -- a is what the row that is made of r comes to
 abbrev pub Sizes : List ℕ → List ℕ → List ℕ → List ℕ → Ran → Type 0

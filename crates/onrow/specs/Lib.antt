@@ -1,0 +1,3 @@
+pub mod OnRow
+pub mod Ready
+pub mod Rows
