@@ -1,9 +1,7 @@
 -- What a bound statement says of its table and of its columns. Counts have 4 bytes in a bound statement.
 -- Assumes nothing.
-use mathlib.Core.Path.{_≡_, refl}
-use mathlib.Core.List.{List}
+use mathlib.Core.Path.{refl}
 use mathlib.Core.Bool.{Bool}
-use Prim.Native.Nat.{ℕ}
 use Rattle.codec.specs.Format.{Format, Fixed}
 use Rattle.codec.specs.Layout.{text, number, mark, via, viaField, headed, both}
 use Rattle.value.specs.Parts.{columnId, tableId, dataType}

@@ -1,14 +1,14 @@
 -- A bound expression's run, as docs/IMAGES.md lays it out: the head of a node is its kind, its type and a mark: nullable. Leaves have the kinds
 -- 0 and 1, nodes with one operand 2 to 6, nodes with two 7 to 19.
 -- Assumes nothing.
-use mathlib.Core.Path.{_≡_, refl, ap, ap₂, _∙_}
+use mathlib.Core.Path.{_≡_, refl, ap, ap₂}
 use mathlib.Core.Bool.{Bool, true, false}
-use mathlib.Core.Option.{Option, none, some}
+use mathlib.Core.Option.{none, some}
 use mathlib.Core.List.{List, [], _∷_}
 use Prim.Native.Nat.{ℕ}
 use lib.ListN.{getElem?}
 use Rattle.tree.specs.Tree.{Tree, leaf, un, bin}
-use Rattle.codec.specs.Format.{Format, Fixed, Coded, Enum}
+use Rattle.codec.specs.Format.{Format, Fixed, Coded}
 use Rattle.codec.specs.Layout.{mark, via, viaField, both}
 use Rattle.codec.specs.Sums.{Case, case, Some, nth, made, sum, kinds}
 use Rattle.codec.specs.Run.{run, labelsWith}

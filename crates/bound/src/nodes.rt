@@ -9,6 +9,9 @@ use crate::fields::put_byte;
 use crate::fields::put_marks;
 use rules::Mark;
 
+// The bytes of a node, without what a leaf holds.
+pub const NODE: usize = 11;
+
 // Kind, type, nullable, then the span and the end of the content, 4 bytes each.
 pub fn put_node(out: &mut [u8], at: usize, kind: u8, mark: Mark, span: usize, end: usize) -> usize
     requires { ⌜ at + 11 ≤ length (now out) ⌝ }
@@ -18,10 +21,4 @@ pub fn put_node(out: &mut [u8], at: usize, kind: u8, mark: Mark, span: usize, en
     let b = put_marks(out, a, mark);
     let c = wire::put(out, b, 4, span as u64);
     wire::put(out, c, 4, end as u64)
-}
-
-pub fn node_len() -> usize
-    ensures { λ r. ⌜ (r ≡ 11) × ((kind : ℕ) (mark : Mark) (span end : ℕ) → r ≡ length (nodeBytes kind mark span end)) ⌝ }
-{
-    11
 }

@@ -7,7 +7,7 @@ use mathlib.Core.List.{List, [], _∷_}
 use Prim.Native.Nat.{ℕ, zero, suc, _<_}
 use native.Mathlib.Omega.{arith}
 use lib.ListN.{length, drop, getD}
-use Rattle.codec.specs.Ways.{next, someRead, someCode, Case, Some, made, spread}
+use Rattle.codec.specs.Ways.{someRead, someCode, Case, Some, made, spread}
 use Rattle.codec.specs.Laws.{next-some, spread-one}
 use Rattle.codec.specs.Layout.{pieces}
 use Rattle.codec.specs.Sums.{sum, choice}

@@ -1,20 +1,19 @@
 -- What the tests of a function tell, shape by shape: a record's parts; a mark and something behind it, a code and its case, marks alone.
 -- Assumes nothing.
-use mathlib.Core.Path.{_≡_, refl, sym, ap, ap₂, _∙_}
+use mathlib.Core.Path.{_≡_, refl, sym, ap, _∙_}
 use mathlib.Core.Bool.{Bool, true, false, _&&_, and-true, and-false, false≢true}
-use mathlib.Core.Option.{Option, some}
+use mathlib.Core.Option.{some}
 use mathlib.Core.List.{List, [], _∷_}
 use Prim.Native.Nat.{ℕ, zero, suc, _+_, _≤_, _<_}
 use native.Mathlib.Omega.{arith}
 use native.Mathlib.Numerals.{add-one}
-use lib.ListN.{length, drop, getD, getElem?, drop-of-length-le}
+use lib.ListN.{length, drop, getD, drop-of-length-le}
 use lib.Seq.{drop-cons}
 use lib.Dec.{ltb, eqb, eqb·suc-suc}
 use borrow.Author.Tests.{lt-ltb, le-ltb, eq-eqb, ne-eqb, eqb-true}
 use Rattle.codec.specs.Format.{Format, Fixed}
 use Rattle.codec.specs.Ways.{next}
-use Rattle.codec.specs.Laws.{next-some}
-use Rattle.codec.specs.Layout.{nothing, bools, mark, headed, both}
+use Rattle.codec.specs.Layout.{nothing, bools, mark, headed}
 use Rattle.codec.specs.Sums.{Case, Some, made, spread, sum, choice}
 use Rattle.bundle.specs.Bundle.{isThere}
 use Rattle.bundle.specs.Decides.{all-of, Decides}

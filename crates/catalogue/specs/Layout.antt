@@ -1,6 +1,6 @@
 -- The catalogue's image, as docs/IMAGES.md lays it out ("The catalogue"). Counts have 2 bytes.
 -- Assumes nothing.
-use mathlib.Core.Path.{_≡_, refl, sym}
+use mathlib.Core.Path.{_≡_, refl}
 use mathlib.Core.Option.{Option, some}
 use mathlib.Core.List.{List}
 use Prim.Native.Nat.{ℕ}

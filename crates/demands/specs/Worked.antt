@@ -2,7 +2,7 @@
 -- Assumes nothing.
 use mathlib.Core.Path.{_≡_, refl}
 use mathlib.Core.Bool.{true}
-use mathlib.Core.Option.{Option, none, some}
+use mathlib.Core.Option.{some}
 use mathlib.Core.List.{List, [], _∷_}
 use Prim.Native.Nat.{ℕ}
 use lib.IntN.{pos}
@@ -22,7 +22,6 @@ use Rattle.rules.specs.Lookup as rules-lookup
 use Rattle.rules.specs.Marking as rules-marking
 use Rattle.rules.specs.Names as rules-names
 use Rattle.rules.specs.Numbers as rules-numbers
-use Rattle.rules.specs.Obeys as rules-obeys
 use Rattle.rules.specs.Rows as rules-rows
 use Rattle.rules.specs.Tables as rules-tables
 use Rattle.rules.specs.Trimmed as rules-trimmed

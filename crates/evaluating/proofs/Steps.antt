@@ -15,7 +15,6 @@ use Rattle.codec.specs.Ways.{next}
 use Rattle.bundle.specs.Decides.{and-of}
 use Rattle.bundle.specs.Held.{Holds, held}
 use Rattle.catalogue.specs.Layout.{table}
-use Rattle.expression.specs.Expression.{expression}
 use Rattle.expression.specs.Place.{Node, nodeCount, nodeAt, leafKind, leafOf, unKind, unOf, binOf, top, Root}
 use Rattle.expression.specs.Heads.{un-kind}
 use Rattle.expression.specs.Trees.{kindOf}

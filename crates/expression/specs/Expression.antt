@@ -3,12 +3,12 @@
 -- Assumes nothing.
 use mathlib.Core.Path.{_≡_, refl}
 use mathlib.Core.Bool.{Bool, true, false}
-use mathlib.Core.Option.{Option, none, some}
+use mathlib.Core.Option.{none, some}
 use mathlib.Core.Logic.{_⊎_, inl, inr}
 use mathlib.Core.List.{List, [], _∷_}
 use Prim.Native.Nat.{ℕ}
 use lib.ListN.{getElem?}
-use Rattle.codec.specs.Format.{Format, Coded, Enum}
+use Rattle.codec.specs.Format.{Format, Coded}
 use Rattle.codec.specs.Layout.{text, nothing}
 use Rattle.codec.specs.Sums.{Case, case, Some, nth, made, sum, kinds, either, recode}
 use Rattle.codec.specs.Run.{run, labels}

@@ -10,7 +10,7 @@ use lib.ListN.{length}
 use borrow.Author.Tests.{eqb-true}
 use Rattle.rules.specs.declared.Class.the-variants.{SchemaMismatch, ConstraintViolation, UnsupportedSql, InvalidArgument}
 use Rattle.rules.specs.Lists.{Text, same, isEmpty, any}
-use Rattle.rules.specs.Answers.{Answer, given, refuseIf, found, each, _>>=_, _>>_}
+use Rattle.rules.specs.Answers.{Answer, given, found, each, _>>=_, _>>_}
 use Rattle.rules.specs.Tables.{TableSchema, Catalogue}
 use Rattle.rules.specs.Bound.{Value, BoundColumnRef, BoundInsert, BoundStatement, boundInsert}
 use Rattle.rules.specs.Lookup.{boundTable, columnByName}

@@ -1,9 +1,8 @@
 -- What the limits say of an INSERT, as the code wants it.
 -- Assumes nothing.
-use mathlib.Core.Path.{_≡_, sym, ap, _∙_}
+use mathlib.Core.Path.{_≡_, ap, _∙_}
 use mathlib.Core.Bool.{true}
-use mathlib.Core.List.{List, _∷_, _++_, map}
-use mathlib.Core.Option.{some}
+use mathlib.Core.List.{List, _++_, map}
 use Prim.Native.Nat.{ℕ}
 use native.Mathlib.Omega.{arith}
 use lib.ListN.{length}
@@ -14,10 +13,8 @@ use Rattle.bundle.specs.Held.{Is, Holds, is-held, held, held-once, list-count}
 use Rattle.expression.specs.Names.{Within}
 use Rattle.statement.specs.Layout.{name, objectName, insertion}
 use Rattle.rules.specs.Lists.{all}
-use Rattle.rules.specs.Statements.{Name, Expr, Insert}
+use Rattle.rules.specs.Statements.{Expr, Insert}
 use Rattle.rules.specs.Limits.{gather, expressionNames, objectNames, sourceRows, heldByInsert, atMost, heldWithin}
-use Rattle.repeats.specs.Entries.{AllShort}
-use Rattle.repeats.specs.declared.Of.the-variants as of
 use Rattle.resolving.specs.Short.{ShortName, all-front, all-back, held-within, insert-short, short-name}
 use Rattle.targets.specs.Columns.{Targets}
 

@@ -17,7 +17,6 @@ use Rattle.bundle.specs.Held.{Is, Holds, held}
 use Rattle.rules.specs.declared.BoundUnaryOperator.the-variants.{Positive, Negative, Not}
 use Rattle.rules.specs.declared.Class.{Class}
 use Rattle.rules.specs.declared.Class.the-variants.{SchemaMismatch, UnsupportedSql}
-use Rattle.rules.specs.declared.Refusal.{Refusal}
 use Rattle.rules.specs.Lists.{Text}
 use Rattle.rules.specs.Answers.{Answer, given, refused, refuse}
 use Rattle.rules.specs.Bound.{Value}
@@ -25,13 +24,12 @@ use Rattle.rules.specs.Statements.{Leaf, Unary, parentheses, nullTest, unary, o
 use Rattle.rules.specs.Numbers.{integerLiteral}
 use Rattle.rules.specs.Marking.{sign, leafNumber, numberIn, together, signedNumber}
 use Rattle.rules.specs.Analyze.{integer, insertLeaf, insertSigned, insertLiteral}
-use Rattle.rules.specs.Theorems.Answered.{never-given}
 use Rattle.numbers.specs.declared.Literal.the-variants as literal
 use Rattle.numbers.specs.Literal.{told}
 use Rattle.expression.specs.Expression.{expression}
-use Rattle.expression.specs.Place.{Node, nodeCount, nodeAt, leafKind, leafText, leafOf, unKind, unOf, behind, top, Root, IsImage, HasNode}
+use Rattle.expression.specs.Place.{Node, nodeCount, nodeAt, leafKind, leafOf, unKind, behind, top, Root, IsImage, HasNode}
 use Rattle.expression.specs.Heads.{leaf-range, un-range, bin-range}
-use Rattle.expression.specs.Trees.{kindOf, textOf}
+use Rattle.expression.specs.Trees.{kindOf}
 use Rattle.expression.specs.Layout.{text-length}
 use Rattle.expression.specs.Laws.{is-image, placed, some-node, has-content, leaf-at}
 use Rattle.literals.specs.declared.Scalar.{Scalar}

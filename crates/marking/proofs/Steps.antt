@@ -15,7 +15,6 @@ use Rattle.bundle.specs.Decides.{and-of}
 use Rattle.rules.specs.declared.BoundUnaryOperator.the-variants.{Positive, Negative, Not}
 use Rattle.rules.specs.declared.Refusal.{Refusal}
 use Rattle.rules.specs.Lists.{Text}
-use Rattle.rules.specs.Answers.{refused}
 use Rattle.rules.specs.Bound.{BoundExpr}
 use Rattle.rules.specs.Marking.{integerLeaf, leafRule, sign, leafNumber, numberIn, together, signedNumber, unaryRule, binaryRule, bindExpression}
 use Rattle.rules.specs.Numbers.{integerLiteral}

@@ -1,8 +1,8 @@
 // The leaves of a bound expression: each is one node, and holds a column or a literal.
 use crate::Marked;
 use crate::Measured;
-use crate::NODE;
 use bound::columns::column_ref_len;
+use bound::nodes::NODE;
 use bound::values::bool_len;
 use bound::values::int_len;
 use bound::values::null_len;

@@ -26,9 +26,6 @@ ghost use Rattle.marking.specs.Told.{measured};
 ghost use Rattle.marking.specs.Marks.{NamesWithin, Markable, Marks, Sizes};
 ghost use Rattle.marking.specs.Small.{Small};
 
-// The bytes of a node in the bound image, without what a leaf holds.
-const NODE: usize = 11;
-
 // What an expression is bound to: the mark of its root, and how many bytes its nodes and what its leaves hold take in the bound image. One
 // number, since an answer is copied at each return and only the sum is asked for.
 pub struct Measured {

@@ -1,8 +1,8 @@
 // Nodes with operands, by their kinds and what their operands are bound to.
 use crate::Marked;
 use crate::Measured;
-use crate::NODE;
 use crate::leaves::refuse;
+use bound::nodes::NODE;
 use expression::kind;
 use operators::Entry;
 use operators::Ruling;

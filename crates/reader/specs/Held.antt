@@ -1,8 +1,7 @@
 -- What a statement holds: the raw text, the kind, and what follows the kind.
 -- Assumes nothing.
-use mathlib.Core.Path.{_≡_, refl, ap, _∙_, subst}
+use mathlib.Core.Path.{_≡_, refl, subst}
 use mathlib.Core.Bool.{Bool}
-use mathlib.Core.Option.{some}
 use mathlib.Core.List.{List, []}
 use Prim.Native.Nat.{ℕ, _<_}
 use lib.ListN.{length, drop, getD}
@@ -13,7 +12,7 @@ use Rattle.bundle.specs.Bundle.{partsOf, IsRecord}
 use Rattle.bundle.specs.Laws.{some-there, via-record-there, via-record-value}
 use Rattle.bundle.specs.Fields.{bothSpot, field-value}
 use Rattle.bundle.specs.Heads.{markSpot}
-use Rattle.bundle.specs.Values.{LoneMark, lone-mark, mark-is, both-value}
+use Rattle.bundle.specs.Values.{lone-mark, mark-is, both-value}
 use Rattle.bundle.specs.Cases.{ChoiceHas, choice-has}
 use Rattle.rules.specs.Statements.{Kind, createTable, insert, query, update, delete, begin, commit, rollback, showTables, otherKind, Statement}
 use Rattle.statement.specs.Layout.{create, insertion, selection, updating, deletion, kindCases, whichKind, kind-made, kind, statement}

@@ -1,107 +1,22 @@
 -- "Statement by statement": each test at its place, in the Rust's order; the first that fails is the answer.
 -- Assumes nothing: these are definitions.
-use mathlib.Core.Bool.{Bool, true, false, cond, not, _&&_, _||_}
+use mathlib.Core.Bool.{Bool, true, false, cond, not, _&&_}
 use mathlib.Core.List.{List, [], _∷_, _++_, map}
 use mathlib.Core.Option.{Option, none, some}
-use Prim.Native.Nat.{ℕ, _+_}
+use Prim.Native.Nat.{_+_}
 use lib.Dec.{eqb}
 use lib.ListN.{length}
 use lib.IntN.{ℤ}
 use Rattle.tree.specs.Tree.{leaf, un, bin}
-use Rattle.rules.specs.declared.Class.{Class}
 use Rattle.rules.specs.declared.Class.the-variants.{SchemaMismatch, ConstraintViolation, UnsupportedSql, InvalidArgument}
 use Rattle.rules.specs.declared.ColumnId.{ColumnId}
 use Rattle.rules.specs.declared.DataType.{DataType}
 use Rattle.rules.specs.declared.DataType.the-variants as data-type
 use Rattle.rules.specs.Lists.{Text, same, isSome, isEmpty, any, find}
-use Rattle.rules.specs.Answers.{Answer, given, refused, refuse, refuseIf, found, each, _>>=_, _>>_, Verdict, fine, flaw, judged}
+use Rattle.rules.specs.Answers.{Answer, given, refuse, refuseIf, found, each, _>>=_, _>>_, Verdict, fine, flaw, judged}
 use Rattle.rules.specs.Tables.{ColumnSchema, TableSchema, Catalogue, sameId, columnNamed, tableByName}
-use Rattle.rules.specs.Statements.{
-  Name,
-  ObjectName,
-  Leaf,
-  Expr,
-  ColumnType,
-  known,
-  otherType,
-  OptionKind,
-  optionNull,
-  optionNotNull,
-  optionKey,
-  optionKeyWithCharacteristics,
-  otherOption,
-  ColumnOption,
-  ColumnDefinition,
-  Constraint,
-  primaryKey,
-  otherConstraint,
-  CreateTable,
-  SourceBody,
-  values,
-  notValues,
-  Source,
-  Insert,
-  Relation,
-  direct,
-  indirect,
-  TableWithJoins,
-  Item,
-  star,
-  column,
-  otherItem,
-  From,
-  one,
-  notOne,
-  Select,
-  QueryBody,
-  plainSelect,
-  notPlain,
-  Query,
-  Target,
-  target,
-  tuple,
-  Assignment,
-  Update,
-  DeleteFrom,
-  from,
-  noKeyword,
-  Delete,
-  Kind,
-  createTable,
-  insert,
-  query,
-  update,
-  delete,
-  begin,
-  commit,
-  rollback,
-  showTables,
-  otherKind,
-  Statement,
-}
-use Rattle.rules.specs.Bound.{
-  Value,
-  BoundColumnRef,
-  BoundExpr,
-  markOf,
-  BoundCreateTable,
-  BoundInsert,
-  BoundSelect,
-  BoundAssignment,
-  BoundUpdate,
-  BoundDelete,
-  BoundStatement,
-  boundCreateTable,
-  boundInsert,
-  boundSelect,
-  boundUpdate,
-  boundDelete,
-  boundBegin,
-  boundCommit,
-  boundRollback,
-  boundShowTables,
-  boundShowTransactions,
-}
+use Rattle.rules.specs.Statements.{Leaf, Expr, ColumnType, known, otherType, OptionKind, optionNull, optionNotNull, optionKey, optionKeyWithCharacteristics, otherOption, ColumnOption, ColumnDefinition, Constraint, primaryKey, otherConstraint, CreateTable, SourceBody, values, notValues, Insert, Relation, direct, indirect, TableWithJoins, Item, star, column, otherItem, From, one, notOne, Select, QueryBody, plainSelect, notPlain, Query, Target, target, tuple, Assignment, Update, DeleteFrom, from, noKeyword, Delete, Kind, createTable, insert, query, update, delete, begin, commit, rollback, showTables, otherKind, Statement}
+use Rattle.rules.specs.Bound.{Value, BoundColumnRef, BoundExpr, markOf, BoundAssignment, BoundStatement, boundCreateTable, boundInsert, boundSelect, boundUpdate, boundDelete, boundBegin, boundCommit, boundRollback, boundShowTables, boundShowTransactions}
 use Rattle.rules.specs.Names.{canonical, simpleName}
 use Rattle.rules.specs.Trimmed.{isShowTransactions}
 use Rattle.rules.specs.Numbers.{integerLiteral}

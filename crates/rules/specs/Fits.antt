@@ -1,6 +1,6 @@
 -- A condition, and a value given to a column.
 -- Assumes nothing: these are definitions.
-use mathlib.Core.Bool.{Bool, true, false, cond, not, _&&_}
+use mathlib.Core.Bool.{Bool, cond, not, _&&_}
 use Rattle.rules.specs.declared.Class.the-variants.{SchemaMismatch, ConstraintViolation}
 use Rattle.rules.specs.declared.ExpressionType.the-variants as type
 use Rattle.rules.specs.declared.Mark.{Mark}

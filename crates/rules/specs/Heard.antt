@@ -1,33 +1,16 @@
 -- "What a caller hears": the refusals in their order. A statement, a catalogue and a row are what was read of the bytes, with the number of
 -- bytes; `none` is where the bytes are no such image.
 -- Assumes nothing: these are definitions.
-use mathlib.Core.Bool.{Bool, true, false, cond, not, _&&_, _||_}
-use mathlib.Core.List.{List, [], _∷_}
+use mathlib.Core.Bool.{cond, not, _&&_}
+use mathlib.Core.List.{List}
 use mathlib.Core.Option.{Option, none, some}
 use Prim.Native.Nat.{ℕ}
 use lib.Dec.{leb}
 use Rattle.rules.specs.declared.Class.{Class}
 use Rattle.rules.specs.declared.Class.the-variants.{SchemaMismatch, ConstraintViolation, UnsupportedSql, InvalidArgument}
-use Rattle.rules.specs.Lists.{Text}
 use Rattle.rules.specs.Answers.{Answer, given, refused}
 use Rattle.rules.specs.Tables.{TableSchema, Catalogue}
-use Rattle.rules.specs.Statements.{
-  Expr,
-  Assignment,
-  Update,
-  Kind,
-  createTable,
-  insert,
-  query,
-  update,
-  delete,
-  begin,
-  commit,
-  rollback,
-  showTables,
-  otherKind,
-  Statement,
-}
+use Rattle.rules.specs.Statements.{Expr, Assignment, Kind, createTable, insert, query, update, delete, begin, commit, rollback, showTables, otherKind, Statement}
 use Rattle.rules.specs.Bound.{BoundStatement}
 use Rattle.rules.specs.Trimmed.{isShowTransactions}
 use Rattle.rules.specs.Analyze.{analyze, resolveDirectTable}

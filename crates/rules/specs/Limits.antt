@@ -2,7 +2,7 @@
 -- entries of any list (a node run is none) 64 / 65, but rows of an INSERT 1,024 / 1,025 and tables 256 / 257; expression depth 64 / 65
 -- (a leaf is 1, parentheses count)." And number 8, which looks at the statement's names too.
 -- Assumes nothing: these are definitions.
-use mathlib.Core.Bool.{Bool, not, _&&_, _||_}
+use mathlib.Core.Bool.{Bool, _&&_}
 use mathlib.Core.List.{List, [], _∷_, _++_, map}
 use mathlib.Core.Option.{Option, none, some}
 use Prim.Native.Nat.{ℕ}
@@ -11,62 +11,7 @@ use lib.ListN.{length}
 use Rattle.tree.specs.Tree.{leaf, un, bin, depth}
 use Rattle.rules.specs.Lists.{Text, any, all}
 use Rattle.rules.specs.Tables.{ColumnSchema, TableSchema, Catalogue}
-use Rattle.rules.specs.Statements.{
-  Name,
-  ObjectName,
-  plain,
-  qualified,
-  Leaf,
-  Expr,
-  ColumnOption,
-  ColumnDefinition,
-  Constraint,
-  primaryKey,
-  otherConstraint,
-  CreateTable,
-  SourceBody,
-  values,
-  notValues,
-  Source,
-  Insert,
-  Relation,
-  direct,
-  indirect,
-  TableWithJoins,
-  Item,
-  star,
-  column,
-  otherItem,
-  From,
-  one,
-  notOne,
-  Select,
-  QueryBody,
-  plainSelect,
-  notPlain,
-  Query,
-  Target,
-  target,
-  tuple,
-  Assignment,
-  Update,
-  DeleteFrom,
-  from,
-  noKeyword,
-  Delete,
-  Kind,
-  createTable,
-  insert,
-  query,
-  update,
-  delete,
-  begin,
-  commit,
-  rollback,
-  showTables,
-  otherKind,
-  Statement,
-}
+use Rattle.rules.specs.Statements.{Name, ObjectName, plain, qualified, Leaf, Expr, ColumnDefinition, Constraint, primaryKey, otherConstraint, CreateTable, SourceBody, values, notValues, Source, Insert, Relation, direct, indirect, TableWithJoins, Item, star, column, otherItem, From, one, notOne, Select, QueryBody, plainSelect, notPlain, Target, target, tuple, Assignment, Update, DeleteFrom, from, noKeyword, Delete, Kind, createTable, insert, query, update, delete, begin, commit, rollback, showTables, otherKind, Statement}
 use Rattle.rules.specs.Names.{beyondAscii}
 
 -- ---- what a statement holds: its names, its expressions, and how long its lists are

@@ -7,22 +7,19 @@ use mathlib.Core.Bool.{Bool, true, false, cond, _&&_, _||_}
 use mathlib.Core.List.{List, [], _∷_, map}
 use mathlib.Core.Option.{Option, none, some}
 use Prim.Native.Nat.{ℕ}
-use lib.Dec.{eqb}
 use lib.IntN.{ℤ}
 use Rattle.tree.specs.Tree.{Tree, leaf, un, bin}
 use Rattle.rules.specs.declared.Class.the-variants.{SchemaMismatch, UnsupportedSql}
 use Rattle.rules.specs.declared.ExpressionType.{ExpressionType}
 use Rattle.rules.specs.declared.ExpressionType.the-variants as type
 use Rattle.rules.specs.declared.Mark.{Mark}
-use Rattle.rules.specs.declared.BoundUnaryOperator.{BoundUnaryOperator}
 use Rattle.rules.specs.declared.BoundUnaryOperator.the-variants.{Positive, Negative, Not}
 use Rattle.rules.specs.declared.BoundBinaryOperator.{BoundBinaryOperator}
 use Rattle.rules.specs.declared.BoundBinaryOperator.the-variants as op
 use Rattle.rules.specs.Lists.{Text}
 use Rattle.rules.specs.Answers.{Answer, given, _>>=_, Verdict, fine, flaw, judged}
 use Rattle.rules.specs.Tables.{TableSchema}
-use Rattle.rules.specs.Statements.{Name, Leaf, Unary, parentheses, nullTest, unary, otherUnary, Binary, binary, otherBinary, Expr}
-use Rattle.rules.specs.Bound as bound
+use Rattle.rules.specs.Statements.{Leaf, Unary, parentheses, nullTest, unary, otherUnary, Binary, binary, otherBinary, Expr}
 use Rattle.rules.specs.Bound.{Value, BoundColumnRef, Marked, BoundLeaf, BoundUnary, BoundExpr, markOf}
 use Rattle.rules.specs.Names.{canonical}
 use Rattle.rules.specs.Numbers.{integerLiteral}

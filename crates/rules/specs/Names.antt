@@ -1,7 +1,7 @@
 -- Names. "Quoted names keep their bytes. Unquoted ones fold A to Z only." "Object names of other than one part: 3."
 -- Assumes nothing: these are definitions.
-use mathlib.Core.Bool.{Bool, true, false, cond, not, _&&_}
-use mathlib.Core.List.{List, map}
+use mathlib.Core.Bool.{Bool, cond, not, _&&_}
+use mathlib.Core.List.{map}
 use Prim.Native.Nat.{ℕ, _+_}
 use lib.Dec.{leb}
 use Rattle.rules.specs.declared.Class.the-variants.{UnsupportedSql}

@@ -5,9 +5,9 @@ use mathlib.Core.Path.{_≡_}
 use mathlib.Core.Bool.{Bool, true, false, _||_}
 use mathlib.Core.Logic.{_⊎_}
 use mathlib.Core.List.{List, [], _∷_}
-use mathlib.Core.Option.{Option, some, none}
+use mathlib.Core.Option.{some, none}
 use lib.IntN.{ℤ}
-use Rattle.tree.specs.Tree.{Tree, leaf, un, bin}
+use Rattle.tree.specs.Tree.{leaf, un, bin}
 use Rattle.rules.specs.declared.ExpressionType.{ExpressionType}
 use Rattle.rules.specs.declared.ExpressionType.the-variants as type
 use Rattle.rules.specs.declared.Mark.{Mark}

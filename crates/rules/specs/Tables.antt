@@ -2,8 +2,8 @@
 -- "A catalogue holds tables, names and ids distinct. Each table: id, name, schema version, tablet count, columns (id, name,
 -- INT/TEXT/BOOL, nullable), key ids."
 -- Assumes nothing: these are definitions.
-use mathlib.Core.Bool.{Bool, true, false, not, _&&_}
-use mathlib.Core.List.{List, [], _∷_}
+use mathlib.Core.Bool.{Bool, not, _&&_}
+use mathlib.Core.List.{List}
 use mathlib.Core.Option.{Option}
 use Prim.Native.Nat.{ℕ}
 use lib.Dec.{eqb}

@@ -6,7 +6,7 @@ use mathlib.Core.Bool.{Bool, true, false, cond, _||_, _&&_}
 use mathlib.Core.List.{List, [], _∷_, map}
 use lib.Dec.{leb, ltb, eqb}
 use lib.ListN.{length, getD, take, drop}
-use Rattle.rules.specs.Lists.{Text, ascii, same, any}
+use Rattle.rules.specs.Lists.{Text, ascii, same}
 use Rattle.rules.specs.Names.{fold}
 
 pub record Range : Type 0 where

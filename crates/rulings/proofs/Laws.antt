@@ -1,6 +1,6 @@
 -- The fit of a value by the tests in the order in which they are made.
 -- Assumes nothing.
-use mathlib.Core.Path.{_≡_, refl, sym, _∙_}
+use mathlib.Core.Path.{_≡_, refl}
 use mathlib.Core.Bool.{Bool, true, false, cond, not}
 use Rattle.rules.specs.declared.Class.the-variants.{SchemaMismatch, ConstraintViolation}
 use Rattle.rules.specs.declared.DataType.{DataType}

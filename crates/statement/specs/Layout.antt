@@ -2,16 +2,15 @@
 -- Each `..Cases` is the list of a code's cases in the order of the codes; `which..` says which case a value is.
 -- Assumes nothing.
 use mathlib.Core.Path.{_≡_, refl}
-use mathlib.Core.Bool.{Bool, true, false}
-use mathlib.Core.Option.{Option, none, some}
+use mathlib.Core.Bool.{Bool}
+use mathlib.Core.Option.{Option, some}
 use mathlib.Core.List.{List, [], _∷_}
 use Prim.Native.Nat.{ℕ}
 use lib.ListN.{getElem?}
 use Rattle.wire.specs.Le.{Bytes}
-use Rattle.codec.specs.Format.{Format, Fixed, Enum}
+use Rattle.codec.specs.Format.{Format, Fixed}
 use Rattle.codec.specs.Layout.{text, nothing, code, mark, alone, via, headed, both, optional, end, _and_, listOf, recordOf}
 use Rattle.codec.specs.Sums.{Case, case, Some, nth, made, sum, choice}
-use Rattle.value.specs.Parts.{dataType}
 use Rattle.rules.specs.declared.DataType.the-variants as data-type
 use Rattle.rules.specs.Statements.{
   Name,

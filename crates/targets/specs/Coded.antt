@@ -2,13 +2,12 @@
 -- Assumes nothing.
 use mathlib.Core.Path.{_≡_, refl, sym, ap, _∙_}
 use mathlib.Core.Bool.{Bool, true, false}
-use mathlib.Core.List.{List, [], _∷_, _++_, map}
-use Prim.Native.Nat.{ℕ, zero, suc, _+_, _-_, _%_, _≤_, _<_}
-use native.Mathlib.Numerals.{add-one}
+use mathlib.Core.List.{List, [], _∷_, map}
+use Prim.Native.Nat.{ℕ, zero, suc, _+_, _-_, _%_, _<_}
 use native.Mathlib.Omega.{arith}
 use lib.Dec.{leb}
-use lib.ListN.{length, take, drop, getD, set, length-drop}
-use lib.Seq.{getD-take, take-suc-set}
+use lib.ListN.{length, take, drop, getD, length-drop}
+use lib.Seq.{getD-take}
 use Rattle.value.specs.Parts.{dataTypeNo}
 use Rattle.rules.specs.declared.DataType.{DataType}
 use Rattle.rules.specs.declared.DataType.the-variants as data-type

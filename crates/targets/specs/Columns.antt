@@ -8,7 +8,7 @@ use Prim.Native.Nat.{ℕ, zero, suc, _+_, _-_, _≤_, _<_}
 use native.Mathlib.Numerals.{add-one}
 use native.Mathlib.Omega.{arith}
 use lib.Dec.{eqb}
-use lib.ListN.{length, take, drop, set, length-append, length-map, drop-of-length-le}
+use lib.ListN.{length, take, drop, set, drop-of-length-le}
 use lib.Seq.{take-suc-set}
 use borrow.Author.Tests.{leb-true, eqb-true, eqb-false, eq-eqb, ne-eqb}
 use Rattle.codec.specs.Format.{Format}
@@ -27,7 +27,7 @@ use Rattle.statement.specs.Layout.{name}
 use Rattle.rules.specs.declared.Class.the-variants.{SchemaMismatch, ConstraintViolation}
 use Rattle.rules.specs.declared.Refusal.{Refusal}
 use Rattle.rules.specs.Lists.{Text, same, any, all, find}
-use Rattle.rules.specs.Answers.{Answer, given, refused, found, refuseIf, _>>=_, _>>_}
+use Rattle.rules.specs.Answers.{given, refused, _>>=_, _>>_}
 use Rattle.rules.specs.Tables.{ColumnSchema, TableSchema}
 use Rattle.rules.specs.Bound.{BoundColumnRef}
 use Rattle.rules.specs.Lookup.{boundColumns, refNamed, columnByName, inKey}
@@ -37,8 +37,8 @@ use Rattle.rules.specs.Analyze.{insertColumns, missing}
 use Rattle.bound.specs.Columns.{boundColumnRef}
 use Rattle.repeats.specs.declared.Repeat.{Repeat}
 use Rattle.repeats.specs.declared.Of.the-variants as of
-use Rattle.repeats.specs.Repeats.{alike, isAt, firstRepeated, any-last, any-plain, take-next, drop-map, take-map, Reached, reached-none, reached-turn, reached-on}
-use Rattle.repeats.specs.Entries.{Entry, form, nameIn, entry, shortName, AllShort, FindsRepeat, entries-plain}
+use Rattle.repeats.specs.Repeats.{alike, isAt, any-last, any-plain, take-next, drop-map, take-map, Reached, reached-none, reached-turn, reached-on}
+use Rattle.repeats.specs.Entries.{entry, shortName, AllShort, FindsRepeat, entries-plain}
 use Rattle.resolving.specs.declared.Measured.{Measured}
 use Rattle.resolving.specs.declared.Measured.the-variants as measured
 use Rattle.resolving.specs.Told.{sized}
@@ -48,7 +48,7 @@ use Rattle.resolving.specs.Tables.{canonical-length}
 use Rattle.targets.specs.declared.Need.{Need}
 use Rattle.targets.specs.declared.Need.the-variants as need
 use Rattle.targets.specs.Coded.{codeOf, columnCode, Coded}
-use Rattle.targets.specs.Grown.{Grown, grown-none, grown-more, grown-off, grown-end, grown-refused, grown-given}
+use Rattle.targets.specs.Grown.{Grown, grown-none, grown-more, grown-end, grown-refused, grown-given}
 
 -- ---- texts
 

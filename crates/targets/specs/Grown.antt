@@ -11,10 +11,9 @@ use Rattle.rules.specs.declared.Refusal.{Refusal}
 use Rattle.rules.specs.Answers.{Answer, given, refused, each, _>>=_}
 use Rattle.bound.specs.Bundles.{bodies, bodies-snoc, list-length}
 use Rattle.bound.specs.Sizes.{no-parts-length}
-use Rattle.resolving.specs.declared.Measured.{Measured}
 use Rattle.resolving.specs.declared.Measured.the-variants as measured
 use Rattle.resolving.specs.Told.{sized}
-use Rattle.resolving.specs.Steps.{step-on, step-off, steps-joined, sized-given, sized-refused}
+use Rattle.resolving.specs.Steps.{step-on, step-off, sized-given, sized-refused}
 
 module _ {B : Type 0} (g : Format B) where
   -- `whole` is what `rest` gives behind the n parts of `done`, whose list has `total` bytes

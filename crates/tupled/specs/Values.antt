@@ -11,8 +11,8 @@ use Rattle.bundle.specs.Held.{Holds}
 use Rattle.value.specs.Parts.{value}
 use Rattle.expression.specs.Expression.{expression}
 use Rattle.rules.specs.declared.Refusal.{Refusal}
-use Rattle.rules.specs.Answers.{Answer, given}
-use Rattle.rules.specs.Bound.{Value, Value.int, Value.text, Value.bool, Value.null}
+use Rattle.rules.specs.Answers.{given}
+use Rattle.rules.specs.Bound.{Value.int, Value.text, Value.bool, Value.null}
 use Rattle.rules.specs.Statements.{Expr}
 use Rattle.rules.specs.Analyze.{insertLiteral}
 use Rattle.bound.specs.Spelt.{int-length, text-length, bool-length, null-length}

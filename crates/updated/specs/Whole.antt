@@ -18,7 +18,7 @@ use Rattle.bound.specs.Layout as layout
 use Rattle.bound.specs.Layout.{boundStatement}
 use Rattle.bound.specs.Statements.{update-bytes, update-coded}
 use Rattle.bound.specs.Written.{spelt}
-use Rattle.catalogue.specs.Layout.{table, catalogue}
+use Rattle.catalogue.specs.Layout.{table}
 use Rattle.expression.specs.Expression.{expression}
 use Rattle.statement.specs.Layout.{condition, assignment, updating}
 use Rattle.filtering.specs.Filters.{filter-given}

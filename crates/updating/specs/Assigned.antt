@@ -13,7 +13,7 @@ use Rattle.bound.specs.Layout as layout
 use Rattle.bound.specs.Bundles.{bodies, bodies-snoc, list-length}
 use Rattle.repeats.specs.declared.Of.the-variants as of
 use Rattle.repeats.specs.Repeats.{alike, isAt, firstRepeated, any-last, take-next, drop-next, drop-map, Reached, reached-none, reached-turn, reached-on}
-use Rattle.repeats.specs.Entries.{compared, entry}
+use Rattle.repeats.specs.Entries.{entry}
 use Rattle.resolving.specs.Steps.{classed, step-on, step-off, steps-joined, test-on, test-off}
 use Rattle.rules.specs.declared.Class.{Class}
 use Rattle.rules.specs.declared.Class.the-variants.{SchemaMismatch, ConstraintViolation}

@@ -1,12 +1,12 @@
 -- What several images hold, as docs/IMAGES.md lays it out ("What all four share").
 -- Assumes nothing.
 use mathlib.Core.Path.{_≡_, refl}
-use mathlib.Core.Bool.{Bool, true, false}
+use mathlib.Core.Bool.{Bool}
 use mathlib.Core.Option.{some}
 use mathlib.Core.List.{List, [], _∷_}
 use Prim.Native.Nat.{ℕ}
 use lib.ListN.{getElem?}
-use Rattle.codec.specs.Format.{Format, Fixed, Coded, Enum}
+use Rattle.codec.specs.Format.{Format, Fixed, Coded}
 use Rattle.codec.specs.Layout.{text, nothing, number, code, mark, alone, int64, via, viaField, both, end, _and_, recordOf}
 use Rattle.codec.specs.Sums.{Case, case, Some, nth, made, sum, kinds, choice}
 use Rattle.rules.specs.declared.TableId.{TableId}

@@ -6,6 +6,7 @@ mod leaves;
 mod nodes;
 
 use bound::fields::put_count;
+use bound::nodes::NODE;
 use counts::bound_nodes;
 use expression::kind;
 use expression::span;
@@ -157,7 +158,7 @@ fn write_binary(
         e,
         right,
         out,
-        row + 11 * nodes,
+        row + NODE * nodes,
         content + bytes,
         from + bytes,
     );
@@ -175,7 +176,7 @@ pub fn put_expression(out: &mut [u8], at: usize, t: &[u8], e: &[u8]) -> usize
 {
     let n = bound_nodes(e);
     let rows = put_count(out, at, n);
-    let content = rows + 11 * n;
+    let content = rows + NODE * n;
     let last = expression::nodes(e) - 1;
     let r = write(t, e, last, out, rows, content, 0);
     content + r.content

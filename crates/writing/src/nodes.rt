@@ -1,5 +1,6 @@
 // Nodes with operands: their marks, and a node's row behind those of its operands.
 use crate::Bound;
+use bound::nodes::NODE;
 use bound::nodes::put_node;
 use expression::kind;
 use operators::Ruling;
@@ -122,7 +123,14 @@ pub fn put_root(
     requires { ⌜ (row + 11 * (nodes + 1) ≤ length (now out)) × (from + content ≤ length (now out)) ⌝ }
     ensures { λ r. ⌜ Rooted kind mark nodes from content (now (out .entry)) row r (now (out .exit)) ⌝ }
 {
-    put_node(out, row + 11 * nodes, kind, mark, nodes + 1, from + content);
+    put_node(
+        out,
+        row + NODE * nodes,
+        kind,
+        mark,
+        nodes + 1,
+        from + content,
+    );
     Bound {
         mark,
         nodes: nodes + 1,

@@ -1,15 +1,14 @@
 -- `lookup::column_called` meets its contract. The invariant: the first of the name is the first of those that are left.
 -- Assumes nothing.
-use Prim.Native.Nat.{ℕ, _+_, _-_}
+use Prim.Native.Nat.{_+_, _-_}
 use Rattle.lookup.specs.Finds.{boundFrom, bound-hit, bound-miss}
 use Rattle.bundle.specs.Held.{Holds, list-bundle, Along, along, along-on, turn, part-is, Left, left, left-turn, left-on, left-end}
-use Rattle.rules.specs.Lists.{Text, same}
+use Rattle.rules.specs.Lists.{same}
 use Rattle.rules.specs.Lookup.{boundColumnsFrom}
 use Rattle.rules.specs.Tables.{ColumnSchema, TableSchema}
 use Rattle.value.specs.Parts.{columnSchema}
 use borrow.Author.Needs.{needs}
 use lib.ListN.{drop, take}
-use mathlib.Core.List.{List}
 use mathlib.Core.Path.{_≡_, sym, ap, _∙_}
 use Rattle.lookup.proofs.column_called.Statement.{statement}
 use Rattle.lookup.proofs.column_called.Tie as tie

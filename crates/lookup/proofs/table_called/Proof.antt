@@ -1,14 +1,13 @@
 -- `lookup::table_called` meets its contract. The invariant: the first of the name is the first of those that are left.
 -- Assumes nothing.
-use Prim.Native.Nat.{ℕ, _+_, _-_}
+use Prim.Native.Nat.{_+_, _-_}
 use Rattle.catalogue.specs.Entries.{find-hit, find-miss}
 use Rattle.bundle.specs.Held.{Holds, list-bundle, Along, along, along-on, turn, part-is, Left, left, left-turn, left-on, left-end}
 use Rattle.catalogue.specs.Layout.{table}
-use Rattle.rules.specs.Lists.{Text, same, find}
+use Rattle.rules.specs.Lists.{same, find}
 use Rattle.rules.specs.Tables.{TableSchema, tableByName, tableNamed}
 use borrow.Author.Needs.{needs}
 use lib.ListN.{drop, take}
-use mathlib.Core.List.{List}
 use mathlib.Core.Path.{_≡_, sym, ap, _∙_}
 use Rattle.lookup.proofs.table_called.Statement.{statement}
 use Rattle.lookup.proofs.table_called.Tie as tie

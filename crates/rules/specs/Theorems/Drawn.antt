@@ -3,48 +3,18 @@
 use mathlib.Core.Path.{_≡_, refl}
 use mathlib.Core.Bool.{Bool, true, false}
 use mathlib.Core.List.{List, [], _∷_, map}
-use mathlib.Core.Option.{Option, none, some}
-use Prim.Native.Nat.{ℕ}
+use mathlib.Core.Option.{none, some}
 use Prim.Native.String.{String}
-use Rattle.tree.specs.Tree.{leaf, un, bin, depth}
+use Rattle.tree.specs.Tree.{leaf, bin, depth}
 use Rattle.rules.specs.declared.DataType.the-variants as data-type
 use Rattle.rules.specs.declared.ExpressionType.the-variants as type
 use Rattle.rules.specs.declared.BoundBinaryOperator.the-variants as op
-use Rattle.rules.specs.Lists.{Text, ascii}
-use Rattle.rules.specs.Answers.{Answer, given, each}
+use Rattle.rules.specs.Lists.{ascii}
+use Rattle.rules.specs.Answers.{given, each}
 use Rattle.rules.specs.Theorems.Answered.{mapped}
 use Rattle.rules.specs.Tables.{tableByName}
-use Rattle.rules.specs.Statements.{
-  Name,
-  ObjectName,
-  Leaf,
-  Expr,
-  binary,
-  otherBinary,
-  ColumnType,
-  known,
-  otherType,
-  OptionKind,
-  optionNull,
-  optionKey,
-  otherOption,
-  ColumnOption,
-  ColumnDefinition,
-  Constraint,
-  primaryKey,
-  CreateTable,
-  Insert,
-  direct,
-  target,
-  Assignment,
-  Kind,
-  createTable,
-  insert,
-  update,
-  otherKind,
-  Statement,
-}
-use Rattle.rules.specs.Bound.{BoundStatement, BoundCreateTable, boundCreateTable}
+use Rattle.rules.specs.Statements.{Name, ObjectName, Leaf, Expr, binary, otherBinary, ColumnType, known, otherType, OptionKind, optionNull, optionKey, otherOption, ColumnDefinition, Constraint, primaryKey, direct, target, Assignment, Kind, createTable, insert, update, otherKind, Statement}
+use Rattle.rules.specs.Bound.{BoundStatement, boundCreateTable}
 use Rattle.rules.specs.Names.{canonical, simpleName, beyondAscii}
 use Rattle.rules.specs.Trimmed.{within, white1, white2, white3, width, off, withoutSemicolon, dispatched, isShowTransactions}
 use Rattle.rules.specs.Numbers.{digits, unsignedText, numberText, integerLiteral}
@@ -90,7 +60,7 @@ use Rattle.rules.specs.Analyze.{
 }
 use Rattle.rules.specs.Limits.{expressionNames, heldByCreateTable, heldByInsert, heldByUpdate, heldBy, heldWithin, tableWithin, statementWithin, catalogueWithin, namesBeyondAscii}
 use Rattle.rules.specs.Heard.{judgedStatement}
-use Rattle.rules.specs.Theorems.Runs.{runs, unquoted, name, number, literalNull, _⟨_⟩_, Answered, binds, is, read, bound}
+use Rattle.rules.specs.Theorems.Runs.{runs, unquoted, name, number, _⟨_⟩_, Answered, binds, is, read, bound}
 
 -- ---- how the statements are written here
 

@@ -1,9 +1,8 @@
 -- Number 11: on a statement that binds, working out its new row faults or gives a row; there is always a rule. So 11 is an arithmetic fault.
 -- Assumes nothing.
-use mathlib.Core.Path.{_≡_, refl}
+use mathlib.Core.Path.{_≡_}
 use mathlib.Core.Bool.{Bool, true, false, cond}
 use mathlib.Core.Logic.{_↔_, _⊎_, inl, inr, Iff·trans}
-use mathlib.Core.List.{[]}
 use mathlib.Core.Option.{Option, none, some, Option·none-ne-some, Option·some-injective}
 use Prim.Native.Nat.{ℕ}
 use native.Mathlib.Omega.{arith}
@@ -15,12 +14,12 @@ use Rattle.rules.specs.Statements.{Kind, createTable, insert, query, upd
 use Rattle.rules.specs.Bound.{BoundStatement, boundShowTransactions}
 use Rattle.rules.specs.Trimmed.{isShowTransactions}
 use Rattle.rules.specs.Analyze.{resolveDirectTable, analyzeUpdate, analyzeKind, analyze}
-use Rattle.rules.specs.Rows.{Row, rowObeys}
-use Rattle.rules.specs.Evaluate.{Worked, fault, noRule, updateRow}
+use Rattle.rules.specs.Rows.{Row}
+use Rattle.rules.specs.Evaluate.{Worked, fault, noRule}
 use Rattle.rules.specs.Obeys.{UpdateObeys}
 use Rattle.rules.specs.Heard.{refuses, Read, Running, updateOf, runnable, runOutcome}
 use Rattle.rules.specs.Theorems.Steps.{step, step-found, step-past}
-use Rattle.rules.specs.Theorems.Update.{bindUpdate, update-exactly}
+use Rattle.rules.specs.Theorems.Update.{update-exactly}
 use Rattle.rules.specs.Theorems.HasMark.{FaultsOr}
 use Rattle.rules.specs.Theorems.Rows.{update-obeys}
 use Rattle.rules.specs.Theorems.Order.{Asked, Obeying, changed, eleven-exactly}

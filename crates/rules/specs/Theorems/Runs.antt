@@ -3,7 +3,7 @@
 use mathlib.Core.Path.{_≡_, refl}
 use mathlib.Core.Bool.{Bool, true, false}
 use mathlib.Core.List.{List, [], _∷_, map}
-use mathlib.Core.Option.{Option, none, some}
+use mathlib.Core.Option.{Option, some}
 use Prim.Native.Nat.{ℕ, _^_, _-_}
 use Prim.Native.String.{String}
 use lib.IntN.{pos, negsuc}
@@ -14,8 +14,8 @@ use Rattle.rules.specs.declared.BoundBinaryOperator.{BoundBinaryOperator
 use Rattle.rules.specs.declared.BoundBinaryOperator.the-variants as op
 use Rattle.rules.specs.Lists.{Text, ascii}
 use Rattle.rules.specs.Answers.{each}
-use Rattle.rules.specs.Tables.{ColumnSchema, TableSchema, Catalogue, tableByName}
-use Rattle.rules.specs.Statements.{Name, ObjectName, Leaf, Expr, parentheses, nullTest, unary, binary, direct, target, Assignment, Statement, update}
+use Rattle.rules.specs.Tables.{TableSchema, tableByName}
+use Rattle.rules.specs.Statements.{Name, ObjectName, Leaf, Expr, parentheses, nullTest, unary, binary, direct, target, Statement, update}
 use Rattle.rules.specs.Bound.{Value, int, text, bool, null, BoundStatement}
 use Rattle.rules.specs.Names.{canonical, simpleName, beyondAscii}
 use Rattle.rules.specs.Trimmed.{within, white1, white2, white3, width, off, withoutSemicolon, dispatched, isShowTransactions}

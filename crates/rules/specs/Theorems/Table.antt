@@ -3,7 +3,6 @@
 use mathlib.Core.Path.{_≡_, refl}
 use mathlib.Core.List.{[], map}
 use mathlib.Core.Option.{some}
-use Prim.Native.Nat.{ℕ}
 use lib.ListN.{length, getD, getElem?, replicate}
 use Rattle.rules.specs.declared.Class.the-variants.{SchemaMismatch}
 use Rattle.rules.specs.declared.ExpressionType.{ExpressionType}

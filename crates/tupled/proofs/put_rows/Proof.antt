@@ -1,6 +1,6 @@
 -- `tupled::put_rows` meets its contract. The invariant: the rows so far are written, and their lengths in front of all.
 -- Assumes nothing.
-use Prim.Native.Nat.{_+_, _-_, _*_, _≤_}
+use Prim.Native.Nat.{_-_, _≤_}
 use native.Mathlib.Omega.{arith}
 use Rattle.codec.specs.Layout.{listOf}
 use Rattle.bundle.specs.Held.{Along, along, along-on, list-bundle}
