@@ -32,9 +32,25 @@ pub fn cases() -> Result<Vec<Measured>, String> {
     Ok(vec![
         measured("the runs table's first row", UPDATE, &runs)?,
         measured("UPDATE, 127 nodes, depth 64", &deep_update(), &runs)?,
-        measured("CREATE TABLE, 64 columns", &wide_create(), &runs)?,
-        measured("INSERT, 1,024 rows by 4 values", &long_insert(), &runs)?,
+        measured("CREATE TABLE, 64 columns", &wide_create(COLUMNS), &runs)?,
+        measured("INSERT, 1,024 rows by 4 values", &long_insert(ROWS), &runs)?,
         measured("small UPDATE, 256 tables", &small, &many_tables)?,
+    ])
+}
+
+/// Statements that grow: how the time does is to be seen.
+pub fn growing() -> Result<Vec<Measured>, String> {
+    let runs = text::catalogue::catalogue(RUNS).map_err(|error| error.in_text(RUNS))?;
+    Ok(vec![
+        measured("INSERT, 16 rows", &long_insert(16), &runs)?,
+        measured("INSERT, 128 rows", &long_insert(128), &runs)?,
+        measured("INSERT, 1,024 rows", &long_insert(ROWS), &runs)?,
+        measured("UPDATE, 16 groups of AND", &wide_update(1), &runs)?,
+        measured("UPDATE, 128 groups of AND", &wide_update(8), &runs)?,
+        measured("UPDATE, 512 groups of AND", &wide_update(32), &runs)?,
+        measured("CREATE TABLE, 4 columns", &wide_create(4), &runs)?,
+        measured("CREATE TABLE, 16 columns", &wide_create(16), &runs)?,
+        measured("CREATE TABLE, 64 columns", &wide_create(COLUMNS), &runs)?,
     ])
 }
 
@@ -54,14 +70,20 @@ fn deep_update() -> String {
     format!("UPDATE runs SET minutes = minutes{} WHERE ok", " + 1".repeat(DEPTH - 1))
 }
 
-fn wide_create() -> String {
-    let columns: Vec<String> = (1..COLUMNS).map(|place| format!("column_{place} INT")).collect();
+/// Some times 16 groups of four names each, none of them deep.
+fn wide_update(times: usize) -> String {
+    let group = vec!["(ok AND ok AND ok AND ok)"; 16].join(" AND ");
+    format!("UPDATE runs SET minutes = 1 WHERE {}", vec![format!("({group})"); times].join(" AND "))
+}
+
+fn wide_create(columns: usize) -> String {
+    let columns: Vec<String> = (1..columns).map(|place| format!("column_{place} INT")).collect();
     format!("CREATE TABLE wide (column_0 INT PRIMARY KEY, {})", columns.join(", "))
 }
 
 /// Written tight: with its raw text the statement has to stay below 65,536 bytes.
-fn long_insert() -> String {
-    format!("INSERT INTO runs (serial, minutes, temp, ok) VALUES {}", vec!["('a',1,2,TRUE)"; ROWS].join(","))
+fn long_insert(rows: usize) -> String {
+    format!("INSERT INTO runs (serial, minutes, temp, ok) VALUES {}", vec!["('a',1,2,TRUE)"; rows].join(","))
 }
 
 /// As many tables as a catalogue may have, like the given one but for name and id. The last is asked for.

@@ -1,6 +1,7 @@
 //! What is measured of the readers: cases of growing size, and a plain pass over the same bytes.
 
 use std::hint::black_box;
+use std::sync::OnceLock;
 
 use images::catalogue::{Catalogue, Column, Table};
 use images::row::Row;
@@ -40,13 +41,21 @@ pub const IS_ROW: Measured = Measured {
         black_box(sirklemet::is_row(bytes));
     },
 };
+/// Of a catalogue and a row, one behind the other: whether the row obeys the first table.
+pub const OBEYS: Measured = Measured {
+    symbol: "sirklemet_obeys",
+    call: |bytes| {
+        let (tables, row) = bytes.split_at(one_table().len());
+        black_box(sirklemet::obeys(row, tables, 0));
+    },
+};
 pub const PASS: Measured = Measured {
     symbol: "plain_pass",
     call: |bytes| {
         black_box(plain_pass(bytes));
     },
 };
-pub const ALL: [Measured; 5] = [IS_STATEMENT, READ_STATEMENT, READ_CATALOGUE, IS_ROW, PASS];
+pub const ALL: [Measured; 6] = [IS_STATEMENT, READ_STATEMENT, READ_CATALOGUE, IS_ROW, OBEYS, PASS];
 
 /// The sum of all bytes.
 #[unsafe(no_mangle)]
@@ -75,7 +84,10 @@ pub fn cases() -> Vec<Case> {
         let others = sizes.map(|size| statement(reader, "raw text, 2 bytes", size, |length| text("é", length)));
         [inserts, runs, texts, others].into_iter().flatten()
     });
-    grown.chain([long_names()]).chain(rows).chain(statements).collect()
+    let names = [long_names("their end", |number| format!("{}{number:03}", "n".repeat(125)))]
+        .into_iter()
+        .chain([long_names("their front", |number| format!("{number:03}{}", "n".repeat(125)))]);
+    grown.chain(names).chain(rows).chain([obeying()]).chain(statements).collect()
 }
 
 fn column(number: usize) -> Column {
@@ -97,10 +109,32 @@ fn grown_catalogue(tables: usize, columns: usize) -> Case {
     catalogue_case(name, (0..tables).map(|number| table(number, format!("table_{number}"), columns)).collect())
 }
 
-/// The dearest names for the search for repeats that the limits allow: long, and alike but for their end.
-fn long_names() -> Case {
-    let named = |number: usize| table(number, format!("{}{number:03}", "n".repeat(125)), 1);
-    catalogue_case("read_catalogue, 256 x 1, long names".to_string(), (0..256).map(named).collect())
+/// The longest names that the limits allow, alike but for one end. Names are compared from their end, so those that
+/// differ at their front are the dearest for the search for repeats.
+fn long_names(differ_at: &str, name: impl Fn(usize) -> String) -> Case {
+    let tables = (0..256).map(|number| table(number, name(number), 1)).collect();
+    catalogue_case(format!("read_catalogue, 256 x 1, {differ_at}"), tables)
+}
+
+/// A table of as many columns as it may have.
+fn one_table() -> &'static [u8] {
+    static IMAGE: OnceLock<Vec<u8>> = OnceLock::new();
+    let table = || Catalogue { tables: vec![table(1, "runs".to_string(), 64)] };
+    IMAGE.get_or_init(|| table().encode().expect("a table of 64 columns has an image"))
+}
+
+/// A row of that table.
+fn obeying() -> Case {
+    let value = |number: usize| match column(number).data_type {
+        ColumnType::Int => Value::Int(41),
+        ColumnType::Text => Value::Text("A-100".to_string()),
+        ColumnType::Bool => Value::Bool(true),
+    };
+    let row = Row { values: (0..64).map(value).collect() };
+    let image = row.encode().expect("a row of this size has an image");
+    let bytes = [one_table(), &image].concat();
+    assert!(sirklemet::obeys(&image, one_table(), 0), "a row that does not obey its table is not measured");
+    Case { name: "obeys, 64 columns".to_string(), bytes, reader: OBEYS }
 }
 
 /// A row of INT, TEXT, BOOL and NULL in turn.

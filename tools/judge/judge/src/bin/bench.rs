@@ -8,23 +8,29 @@ use judge::analyzer::analyze;
 use judge::decode::{self, Choice};
 use judge::generate::Case;
 use judge::judge::judge;
-use judge::measure::{Measured, cases, nanoseconds};
+use judge::measure::{Measured, cases, growing, nanoseconds};
 
 const HELP: &str = "\
-bench    prints nanoseconds per call for a few cases, the fastest of many batches, in some 20 seconds:
-           analyze   the Rust's analyze() alone, on a statement and a catalogue in memory
-           decoded   decoding both images, then analyze()
-           pass      a plain pass over both images: the sum of their bytes
-           bind      the static library's sirklemet_bind, where SIRKLEMET_STATICLIB names one
-         and their ratios. It is no test
+bench           prints nanoseconds per call for a few cases, the fastest of many batches, in some 20 seconds:
+                  analyze   the Rust's analyze() alone, on a statement and a catalogue in memory
+                  decoded   decoding both images, then analyze()
+                  pass      a plain pass over both images: the sum of their bytes
+                  bind      the static library's sirklemet_bind, where SIRKLEMET_STATICLIB names one
+                and their ratios. It is no test
+bench growth    the same for statements that grow
 ";
 
 fn main() -> ExitCode {
-    if std::env::args().len() > 1 {
-        print!("{HELP}");
-        return ExitCode::SUCCESS;
-    }
-    match run() {
+    let words: Vec<String> = std::env::args().skip(1).collect();
+    let measured = match words.iter().map(String::as_str).collect::<Vec<_>>().as_slice() {
+        [] => cases(),
+        ["growth"] => growing(),
+        _ => {
+            print!("{HELP}");
+            return ExitCode::SUCCESS;
+        }
+    };
+    match measured.and_then(|measured| run(&measured)) {
         Ok(()) => ExitCode::SUCCESS,
         Err(message) => {
             eprintln!("bench: {message}");
@@ -33,10 +39,10 @@ fn main() -> ExitCode {
     }
 }
 
-fn run() -> Result<(), String> {
+fn run(cases: &[Measured]) -> Result<(), String> {
     println!("nanoseconds per call, the fastest of many batches; nothing else should run on the machine");
     println!("{}", heading());
-    for measured in cases()? {
+    for measured in cases {
         let number = judge(&measured.case.statement, &measured.case.catalogue, measured.case.room).number();
         if number != 0 {
             return Err(format!(
@@ -44,7 +50,7 @@ fn run() -> Result<(), String> {
                 measured.name
             ));
         }
-        println!("{}", line(&measured)?);
+        println!("{}", line(measured)?);
     }
     Ok(())
 }
