@@ -1,14 +1,20 @@
 -- A record of cases, each with the answer that is expected. The number of cases stands first; then for each case the answer (one byte), the room,
--- the lengths of its parts, and the parts. All numbers but the answer have four bytes, the lowest first. How many parts a case has, the kind of
--- the record says: it is k here.
+-- the lengths of its parts, and the parts. All numbers but the answer have four bytes, the lowest first. How many parts a case has, what the
+-- record is of says: it is k here.
 -- Assumes nothing.
-use mathlib.Core.Path.{_≡_}
-use mathlib.Core.Bool.{Bool, true, false, cond, _&&_}
+use mathlib.Core.Bool.{Bool, cond, _&&_}
 use mathlib.Core.List.{List, [], _∷_}
 use Prim.Native.Nat.{ℕ, zero, suc, _+_, _*_}
 use lib.Dec.{eqb, leb}
 use lib.ListN.{length, getD, take, drop}
 use Rattle.wire.specs.Le.{num}
+use Rattle.recorded.specs.declared.Of.{Of}
+use Rattle.recorded.specs.declared.Of.the-variants.{Binds, Runs}
+
+-- the statement, the catalogue, and the bound statement; or the statement, the catalogue, the row, and the row after
+abbrev pub partsOf : Of → ℕ
+partsOf Binds = 3
+partsOf Runs = 4
 
 -- the number in the four bytes from `at` on
 abbrev pub size : ℕ → List ℕ → ℕ

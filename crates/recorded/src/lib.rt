@@ -1,26 +1,22 @@
 // Records of cases with the answers that are expected: how one is laid out, whether an answer is the expected one, and what is counted.
-// `specs/Layout.antt` has the layout. `replaying` goes through a record.
-pub mod replaying;
-pub mod said;
-
+// `specs/Layout.antt` has the layout.
 use reply::Reply;
 ghost use mathlib.Core.Bool.{true};
 ghost use mathlib.Core.Path.{_≡_};
 ghost use Prim.Native.Nat.{_+_, _*_, _≤_, _<_};
 ghost use lib.ListN.{length};
 ghost use Rattle.wire.specs.Le.{Got};
-ghost use Rattle.recorded.specs.Layout.{starts, part, most, isCase};
+ghost use Rattle.recorded.specs.Layout.{partsOf, starts, part, most, isCase};
 ghost use Rattle.recorded.specs.Agrees.{agreeing};
-ghost use Rattle.recorded.specs.Differs.{partsOf};
 ghost use Rattle.recorded.specs.Counts.{bit, isOther, added, none, replayed, Few};
 
 // The longest room of a case.
 const MOST: usize = 4500;
 
 // Of a case.
-const BIND_PARTS: usize = 3;
+pub const BIND_PARTS: usize = 3;
 
-const RUN_PARTS: usize = 4;
+pub const RUN_PARTS: usize = 4;
 
 // What a record is of: statements bound, or run on a row.
 pub enum Of {
@@ -43,7 +39,7 @@ pub struct Replayed {
     pub tally: Tally,
 }
 
-fn parts(of: Of) -> usize
+pub fn parts(of: Of) -> usize
     ensures { λ r. ⌜ (r ≡ partsOf of) × (r ≤ 4) ⌝ }
 {
     match of {
@@ -53,7 +49,7 @@ fn parts(of: Of) -> usize
 }
 
 // The number in the four bytes from `at` on.
-fn size(s: &[u8], at: usize) -> usize
+pub fn size(s: &[u8], at: usize) -> usize
     requires { ⌜ at + 4 ≤ length (now s) ⌝ }
     ensures { λ r. ⌜ Got (now (s .entry)) at 4 r ⌝ }
 {
@@ -75,7 +71,7 @@ fn starts(s: &[u8], k: usize, j: usize) -> usize
 }
 
 // Whether a case of k parts stands at the front.
-fn is_case(s: &[u8], k: usize) -> bool
+pub fn is_case(s: &[u8], k: usize) -> bool
     requires { ⌜ k ≤ 4 ⌝ }
     ensures { λ r. ⌜ r ≡ isCase k (now (s .entry)) ⌝ }
 {
@@ -88,7 +84,7 @@ fn is_case(s: &[u8], k: usize) -> bool
     size(s, 1) <= MOST
 }
 
-fn part(s: &[u8], k: usize, j: usize) -> &[u8]
+pub fn part(s: &[u8], k: usize, j: usize) -> &[u8]
     requires { ⌜ (isCase k (now s) ≡ true) × (j < k) × (k ≤ 4) ⌝ }
     ensures { λ r. ⌜ now r ≡ part k j (now (s .entry)) ⌝ }
 {
@@ -98,7 +94,7 @@ fn part(s: &[u8], k: usize, j: usize) -> &[u8]
 }
 
 // How long the case is.
-fn case_length(s: &[u8], k: usize) -> usize
+pub fn case_length(s: &[u8], k: usize) -> usize
     requires { ⌜ (isCase k (now s) ≡ true) × (k ≤ 4) ⌝ }
     ensures { λ r. ⌜ (r ≡ starts k k (now (s .entry))) × (r ≤ length (now (s .entry))) ⌝ }
 {
@@ -106,14 +102,14 @@ fn case_length(s: &[u8], k: usize) -> usize
 }
 
 // An output before it is lent, for every room. The byte stands in few answers, so that a byte too many is seen.
-fn untouched() -> [u8; 4500]
+pub fn untouched() -> [u8; 4500]
     ensures { λ r. ⌜ most ≡ length r ⌝ }
 {
     [165; 4500]
 }
 
 // The number, the length, every byte, and the room behind them as it was.
-fn agrees(heard: Reply, number: u8, expected: &[u8], before: &[u8], out: &[u8]) -> bool
+pub fn agrees(heard: Reply, number: u8, expected: &[u8], before: &[u8], out: &[u8]) -> bool
     ensures { λ r. ⌜ r ≡ agreeing heard number (now (expected .entry)) (now (before .entry)) (now (out .entry)) ⌝ }
 {
     if heard.refusal != number {
@@ -142,7 +138,7 @@ fn one(yes: bool) -> u64
     if yes { 1 } else { 0 }
 }
 
-fn nothing() -> Tally
+pub fn nothing() -> Tally
     ensures { λ r. ⌜ r ≡ none ⌝ }
 {
     Tally {
@@ -165,7 +161,7 @@ fn is_other(number: u8) -> bool
 }
 
 // One case more.
-fn counted(t: Tally, number: u8, differs: bool) -> Tally
+pub fn counted(t: Tally, number: u8, differs: bool) -> Tally
     requires { ⌜ Few t ⌝ }
     ensures { λ r. ⌜ r ≡ added t number differs ⌝ }
 {
@@ -178,7 +174,7 @@ fn counted(t: Tally, number: u8, differs: bool) -> Tally
     }
 }
 
-fn ended(is_whole: bool, tally: Tally) -> Replayed
+pub fn ended(is_whole: bool, tally: Tally) -> Replayed
     ensures { λ r. ⌜ r ≡ replayed «is_whole» tally ⌝ }
 {
     Replayed {

@@ -1,13 +1,13 @@
-// Replays the two records: `data/README` says how each was made and how it is laid out. What is counted of a record is `recorded`'s; here it
-// is read and printed.
+// Replays the two records: `data/README` says how each was made and how it is laid out. What is counted of a record is `replaying`'s;
+// here it is read and printed.
 use recorded::Of;
 use recorded::Replayed;
 use recorded::Tally;
-use recorded::replaying::replayed;
-use recorded::said::read;
-use recorded::said::say;
-use recorded::said::say_damage;
-use recorded::said::say_number;
+use replaying::replayed;
+use replaying::said::read;
+use replaying::said::say;
+use replaying::said::say_damage;
+use replaying::said::say_number;
 
 fn say_binds(t: Tally) {
     say_number(t.answered);

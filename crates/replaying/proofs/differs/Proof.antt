@@ -1,14 +1,14 @@
--- `recorded::replaying::differs` meets its contract: the room of a case fits the buffer.
+-- `replaying::differs` meets its contract: the room of a case fits the buffer.
 -- Assumes nothing.
 use mathlib.Core.Path.{refl}
 use native.Mathlib.Omega.{arith}
 use borrow.Author.Needs.{needs}
 use denote.Ref.{now}
 use lib.ListN.{length-take}
 use Rattle.recorded.specs.Cases.{case-head, case-room}
-use Rattle.recorded.specs.Differs.{partsOf}
-use Rattle.recorded.proofs.replaying.differs.Statement.{statement}
-use Rattle.recorded.proofs.replaying.differs.Tie as tie
+use Rattle.recorded.specs.Layout.{partsOf}
+use Rattle.replaying.proofs.differs.Statement.{statement}
+use Rattle.replaying.proofs.differs.Tie as tie
 
 size-requires : tie.Need-size-requires
 size-requires c κs = omega (arith, case-head (partsOf (c .before .args .of)) (now (c .before .args .s)) (c .before .pre))

@@ -1,12 +1,12 @@
--- `recorded::replaying::run_differs` meets its contract: what `run` leaves is compared with the record.
+-- `replaying::run_differs` meets its contract: what `run` leaves is compared with the record.
 -- Assumes nothing.
 use native.Mathlib.Omega.{arith}
 use borrow.Author.Needs.{needs}
 use denote.Ref.{now}
 use Rattle.recorded.specs.Cases.{case-head}
-use Rattle.recorded.specs.Told.{run-told}
-use Rattle.recorded.proofs.replaying.run_differs.Statement.{statement}
-use Rattle.recorded.proofs.replaying.run_differs.Tie as tie
+use Rattle.replaying.specs.Told.{run-told}
+use Rattle.replaying.proofs.run_differs.Statement.{statement}
+use Rattle.replaying.proofs.run_differs.Tie as tie
 
 part-requires : tie.Need-part-requires
 part-requires c κs = search needs

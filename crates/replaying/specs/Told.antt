@@ -9,10 +9,10 @@ use Rattle.rules.specs.Heard.{Outcome}
 use Rattle.reply.specs.declared.Reply.{Reply}
 use Rattle.receiving.specs.Entry.{bindBytes, runBytes}
 use Rattle.reply.specs.Leaves.{Leaves}
 use Rattle.recorded.specs.declared.Of.the-variants.{Binds, Runs}
 use Rattle.recorded.specs.Layout.{answer, room, part}
 use Rattle.recorded.specs.Agrees.{isRecorded, agreeing, agreeing-is}
-use Rattle.recorded.specs.Differs.{differs}
+use Rattle.replaying.specs.Differs.{differs}
 
 -- the output was as `before`
 told : {o : Outcome (List ℕ)} (n : ℕ) (e : List ℕ) {before old out : List ℕ} {k : Reply} {b : Bool} → old ≡ before → Leaves o old k out → length out ≡ length old

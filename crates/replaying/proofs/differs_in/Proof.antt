@@ -1,14 +1,14 @@
--- `recorded::replaying::differs_in` meets its contract: each arm's function tells it for what the record is of.
+-- `replaying::differs_in` meets its contract: each arm's function tells it for what the record is of.
 -- Assumes nothing.
 use mathlib.Core.Path.{_≡_, sym, ap, _∙_, subst}
 use mathlib.Core.Bool.{true}
 use borrow.Author.Needs.{needs}
 use denote.Ref.{now}
 use Rattle.recorded.specs.declared.Of.{Of}
-use Rattle.recorded.specs.Layout.{isCase}
-use Rattle.recorded.specs.Differs.{partsOf, differs}
-use Rattle.recorded.proofs.replaying.differs_in.Statement.{statement}
-use Rattle.recorded.proofs.replaying.differs_in.Tie as tie
+use Rattle.recorded.specs.Layout.{partsOf, isCase}
+use Rattle.replaying.specs.Differs.{differs}
+use Rattle.replaying.proofs.differs_in.Statement.{statement}
+use Rattle.replaying.proofs.differs_in.Tie as tie
 
 enum-told : tie.Need-enum-told
 enum-told c = search needs

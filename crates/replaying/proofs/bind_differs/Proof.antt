@@ -1,12 +1,12 @@
--- `recorded::replaying::bind_differs` meets its contract: what `bind` leaves is compared with the record.
+-- `replaying::bind_differs` meets its contract: what `bind` leaves is compared with the record.
 -- Assumes nothing.
 use native.Mathlib.Omega.{arith}
 use borrow.Author.Needs.{needs}
 use denote.Ref.{now}
 use Rattle.recorded.specs.Cases.{case-head}
-use Rattle.recorded.specs.Told.{bind-told}
-use Rattle.recorded.proofs.replaying.bind_differs.Statement.{statement}
-use Rattle.recorded.proofs.replaying.bind_differs.Tie as tie
+use Rattle.replaying.specs.Told.{bind-told}
+use Rattle.replaying.proofs.bind_differs.Statement.{statement}
+use Rattle.replaying.proofs.bind_differs.Tie as tie
 
 part-requires : tie.Need-part-requires
 part-requires c κs = search needs

@@ -1,27 +1,30 @@
 // A record replayed: each case is bound or run here, and the cases whose answer is not the expected one are counted.
-use crate::BIND_PARTS;
-use crate::Of;
-use crate::RUN_PARTS;
-use crate::Replayed;
-use crate::agrees;
-use crate::case_length;
-use crate::counted;
-use crate::ended;
-use crate::is_case;
-use crate::nothing;
-use crate::part;
-use crate::parts;
-use crate::size;
-use crate::untouched;
+// `recorded` says how a record is laid out.
+pub mod said;
+
+use recorded::BIND_PARTS;
+use recorded::Of;
+use recorded::RUN_PARTS;
+use recorded::Replayed;
+use recorded::agrees;
+use recorded::case_length;
+use recorded::counted;
+use recorded::ended;
+use recorded::is_case;
+use recorded::nothing;
+use recorded::part;
+use recorded::parts;
+use recorded::size;
+use recorded::untouched;
 use runner::run;
 use sirklemet::bind;
 ghost use mathlib.Core.Bool.{true};
 ghost use mathlib.Core.Path.{_≡_};
 ghost use lib.ListN.{length};
 ghost use Rattle.recorded.specs.declared.Of.the-variants as of;
-ghost use Rattle.recorded.specs.Layout.{room, isCase};
-ghost use Rattle.recorded.specs.Differs.{partsOf, differs};
+ghost use Rattle.recorded.specs.Layout.{partsOf, room, isCase};
 ghost use Rattle.recorded.specs.Counts.{Replays};
+ghost use Rattle.replaying.specs.Differs.{differs};
 
 // These three are over an output as long as the case says, which still holds `before`.
 fn bind_differs(s: &[u8], before: &[u8], out: &mut [u8]) -> bool

@@ -1,4 +1,4 @@
--- `recorded::replaying::replayed` meets its contract. The invariant: what is counted and what is left come to the whole record.
+-- `replaying::replayed` meets its contract. The invariant: what is counted and what is left come to the whole record.
 -- Assumes nothing.
 use mathlib.Core.Path.{_≡_, sym, ap, _∙_, subst}
 use mathlib.Core.Bool.{true, false}
@@ -7,19 +7,19 @@ use Prim.Native.Nat.{ℕ, _-_}
 use native.Mathlib.Omega.{arith}
 use lib.ListN.{length, take, drop, length-drop}
 use lib.Seq.{take-all}
-use Rattle.recorded.specs.Layout.{isCase, behind}
+use Rattle.recorded.specs.Layout.{partsOf, isCase, behind}
 use Rattle.recorded.specs.declared.Of.{Of}
 use Rattle.recorded.specs.declared.Tally.{Tally}
 use borrow.Author.Needs.{needs}
 use denote.Ref.{now}
 use Rattle.bundle.specs.Decides.{failed, passed}
 use Rattle.recorded.specs.declared.Replayed.{Replayed}
 use Rattle.recorded.specs.Cases.{case-head}
 use Rattle.recorded.specs.Counts.{replayed, Replays}
 use Rattle.recorded.specs.Counting.{Replaying, replays-short, replaying-start, replaying-few, replaying-more, replays-broken, replays-all}
-use Rattle.recorded.specs.Differs.{partsOf, differs}
-use Rattle.recorded.proofs.replaying.replayed.Statement.{statement}
-use Rattle.recorded.proofs.replaying.replayed.Tie as tie
+use Rattle.replaying.specs.Differs.{differs}
+use Rattle.replaying.proofs.replayed.Statement.{statement}
+use Rattle.replaying.proofs.replayed.Tie as tie
 
 told : (of : Of) {k : ℕ} {b : List ℕ} {r e : Replayed} → k ≡ partsOf of → r ≡ e → Replays (differs of) k b e → Replays (differs of) (partsOf of) b r
 told of {k} {b} {r} p q h = subst (λ (n : ℕ). Replays (differs of) n b r) p (subst (λ (x : Replayed). Replays (differs of) k b x) (sym q) h)

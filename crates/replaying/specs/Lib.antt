@@ -1,0 +1,2 @@
+pub mod Differs
+pub mod Told
