@@ -1,6 +1,7 @@
 -- `statement::names::is_name` meets its contract.
 -- Assumes nothing.
-use Rattle.bundle.specs.Heads.{no-mark, bad-mark, behind-mark}
+use Rattle.utf8.specs.Decide.{isUtf8}
+use Rattle.bundle.specs.Heads.{told, no-mark, bad-mark, behind-mark}
 use Rattle.statement.specs.Shapes.{name-marked}
 use borrow.Author.Needs.{needs}
 use Rattle.statement.proofs.names.is_name.Statement.{statement}
@@ -22,7 +23,9 @@ is-utf8-requires : tie.Need-is-utf8-requires
 is-utf8-requires c κs = search needs
 
 returns-3 : tie.Need-returns-3
-returns-3 c = behind-mark (name-marked _) (search needs) (search needs) (cc)
+returns-3 c =
+    behind-mark (name-marked _) (c .before .before .before .before .if1 .left) (c .before .before .if2 .left)
+    (told isUtf8 (c .is-utf8 .ensures) (c .before .behind .ensures))
 
 pub is-name-spec : {M : Type 1} → statement M
 is-name-spec =
