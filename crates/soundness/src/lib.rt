@@ -47,7 +47,8 @@ fn fits_key(c: &[u8], id: ColumnId) -> bool
     requires { ⌜ Is (columnSchema 2) (now c) ⌝ }
     ensures { λ r. ⌜ ((v : ColumnSchema) → Holds (columnSchema 2) (now (c .entry)) v → r ≡ keyColumn id v) ⌝ }
 {
-    if catalogue::column_id(c).0 != id.0 {
+    let own = catalogue::column_id(c);
+    if own.0 != id.0 {
         return false;
     }
     !catalogue::column_nullable(c)
@@ -76,7 +77,7 @@ fn is_key_id(p: &[u8], list: &[u8]) -> bool
     requires { ⌜ Is (alone columnId) (now p) × Is (listOf 2 (columnSchema 2)) (now list) ⌝ }
     ensures { λ r. ⌜ ((k : ColumnId) → Holds (alone columnId) (now (p .entry)) k → KeyedBy (now (list .entry)) (λ cs. r ≡ isKeyColumn cs k)) ⌝ }
 {
-    is_key_column(list, ColumnId(wire::get(p, 0, 8)))
+    is_key_column(list, catalogue::key_id(p))
 }
 
 fn are_key_ids(s: &[u8], list: &[u8]) -> bool

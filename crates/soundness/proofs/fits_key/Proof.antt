@@ -5,6 +5,7 @@ use borrow.Author.Needs.{needs}
 use borrow.Author.Tests.{eq-eqb, ne-eqb}
 use mathlib.Core.Bool.{Bool, not, _&&_}
 use mathlib.Core.Path.{sym, ap, _∙_}
+use native.Mathlib.Omega.{arith}
 use Rattle.soundness.proofs.fits_key.Statement.{statement}
 use Rattle.soundness.proofs.fits_key.Tie as tie
 
@@ -12,7 +13,9 @@ column-id-requires : tie.Need-column-id-requires
 column-id-requires c κs = search needs
 
 returns : tie.Need-returns
-returns c = λ v h. sym (ap (λ (t : Bool). t && not (v .nullable)) (ne-eqb _ _ (λ e. c .if1 .taken (ap (λ (x : ColumnId). x .0) (c .before .before .before .column-id .ensures v h) ∙ e))))
+returns c = λ v h.
+    let own = ap (λ (x : ColumnId). x .0) (c .before .before .before .column-id .ensures v h) in
+    sym (ap (λ (t : Bool). t && not (v .nullable)) (ne-eqb (v .id .0) (c .before .before .before .before .before .args .id .0) (λ e. c .if1 .taken (omega (arith, own, e)))))
 
 column-nullable-requires : tie.Need-column-nullable-requires
 column-nullable-requires c κs = search needs
