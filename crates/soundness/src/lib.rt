@@ -47,8 +47,7 @@ fn fits_key(c: &[u8], id: ColumnId) -> bool
     requires { ⌜ Is (columnSchema 2) (now c) ⌝ }
     ensures { λ r. ⌜ ((v : ColumnSchema) → Holds (columnSchema 2) (now (c .entry)) v → r ≡ keyColumn id v) ⌝ }
 {
-    let own = catalogue::column_id(c);
-    if own.0 != id.0 {
+    if catalogue::column_id(c).0 != id.0 {
         return false;
     }
     !catalogue::column_nullable(c)
