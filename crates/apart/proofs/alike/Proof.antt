@@ -4,7 +4,7 @@ use Prim.Native.Nat.{ℕ}
 use Rattle.apart.specs.Repeats.{Told, alikeBy}
 use Rattle.apart.specs.declared.By.{By}
 use Rattle.bundle.specs.Held.{Holds, Is, held}
-use Rattle.catalogue.specs.Values.{HasName, HasNumbers, idOf, id-held}
+use Rattle.catalogue.specs.Values.{idOf, id-held}
 use Rattle.codec.specs.Layout.{alone}
 use Rattle.rules.specs.Lists.{same}
 use Rattle.rules.specs.Tables.{sameId}
