@@ -10,20 +10,21 @@ use native.Mathlib.Omega.{arith}
 use lib.Dec.{eqb}
 use lib.ListN.{length, getD, take, drop, drop-of-length-le}
 use lib.Seq.{drop-cons}
-use Rattle.wire.specs.Le.{num}
 use Rattle.codec.specs.Format.{Format}
 use Rattle.codec.specs.Ways.{next, eachJoin}
 use Rattle.codec.specs.Laws.{next-some}
-use Rattle.codec.specs.Layout.{each, listOf}
-use Rattle.bundle.specs.Bundle.{partsOf, IsBundle, Stepped}
+use Rattle.codec.specs.Layout.{alone, each, listOf}
+use Rattle.bundle.specs.Bundle.{partsOf, Stepped}
 use Rattle.bundle.specs.Laws.{bundle-value}
+use Rattle.value.specs.Parts.{columnId}
 use Rattle.rules.specs.Lists.{same, any, distinct}
+use Rattle.rules.specs.Tables.{sameId}
 use Rattle.apart.specs.declared.Repeat.{Repeat}
 use Rattle.apart.specs.declared.Repeat.the-variants.{Nowhere, At}
 use Rattle.apart.specs.declared.By.{By}
 use Rattle.apart.specs.declared.By.the-variants as by
 use Rattle.bundle.specs.Held.{Holds, Is, is-held, held, Along}
-use Rattle.catalogue.specs.Values.{numbersOf, nameOf}
+use Rattle.catalogue.specs.Values.{idOf, nameOf, idNumber, HasName, HasNumbers}
 use Rattle.catalogue.specs.Entries.{any-hit, any-miss}
 
 -- ---- the first repeat
@@ -65,23 +66,14 @@ module _ {A : Type 0} (alike : A → A → Bool) where
 -- what the code compares
 abbrev pub alikeBy : By → List ℕ → List ℕ → Bool
 alikeBy by.Name a b = same (nameOf a) (nameOf b)
-alikeBy by.Id a b = eqb (num (take 8 (numbersOf a))) (num (take 8 (numbersOf b)))
-alikeBy by.Whole a b = eqb (num (take 8 a)) (num (take 8 b))
-
-pub record HasName (s : List ℕ) : Type 0 where
-  pub bundle : IsBundle 2 s
-  pub few : 1 < length (partsOf 2 s)
-
-pub record HasNumbers (s : List ℕ) : Type 0 where
-  pub bundle : IsBundle 2 s
-  pub few : 0 < length (partsOf 2 s)
-  pub wide : 8 ≤ length (numbersOf s)
+alikeBy by.Id a b = eqb (idNumber a) (idNumber b)
+alikeBy by.Whole a b = sameId (idOf a) (idOf b)
 
 -- it is there
 abbrev pub Told : By → List ℕ → Type 0
 Told by.Name s = HasName s
 Told by.Id s = HasNumbers s
-Told by.Whole s = 8 ≤ length s
+Told by.Whole s = Is (alone columnId) s
 
 pub record AllTold (b : By) (s : List ℕ) : Type 0 where
   pub at : (i : ℕ) → i < length (partsOf 2 s) → Told b (getD (partsOf 2 s) i [])

@@ -17,9 +17,9 @@ fn alike(a: &[u8], b: &[u8], by: By) -> bool
     ensures { λ r. ⌜ r ≡ alikeBy by (now (a .entry)) (now (b .entry)) ⌝ }
 {
     match by {
-        By::Name => names::same(bundle::part(a, 2, 1), bundle::part(b, 2, 1)),
-        By::Id => wire::get(bundle::part(a, 2, 0), 0, 8) == wire::get(bundle::part(b, 2, 0), 0, 8),
-        By::Whole => wire::get(a, 0, 8) == wire::get(b, 0, 8),
+        By::Name => names::same(catalogue::entry_name(a), catalogue::entry_name(b)),
+        By::Id => catalogue::entry_id(a) == catalogue::entry_id(b),
+        By::Whole => catalogue::key_id(a).0 == catalogue::key_id(b).0,
     }
 }
 

@@ -4,7 +4,8 @@ use mathlib.Core.Path.{_≡_, refl, sym, ap, _∙_}
 use mathlib.Core.Bool.{Bool, true, false, cond}
 use mathlib.Core.Option.{Option, none, some, Option·none-ne-some, Option·some-injective}
 use mathlib.Core.List.{List, []}
-use Prim.Native.Nat.{ℕ, zero, suc, _+_}
+use Prim.Native.Nat.{ℕ, zero, suc, _+_, _≤_, _<_}
+use native.Mathlib.Omega.{arith}
 use lib.Dec.{eqb}
 use lib.ListN.{length, getD, getElem?, take, drop}
 use Rattle.wire.specs.Le.{num}
@@ -12,7 +13,7 @@ use Rattle.utf8.specs.Decide.{isUtf8}
 use Rattle.codec.specs.Format.{Fixed}
 use Rattle.codec.specs.Ways.{next}
 use Rattle.codec.specs.Layout.{text, alone, bools, listOf}
-use Rattle.bundle.specs.Bundle.{partsOf, IsRecord}
+use Rattle.bundle.specs.Bundle.{partsOf, IsBundle, IsRecord}
 use Rattle.bundle.specs.Laws.{via-record-value, via-record-there}
 use Rattle.bundle.specs.Fields.{Spot, codeSpot, bothSpot, bothLook, field-value, checked-value}
 use Rattle.value.specs.Parts.{columnId, columnSchema}
@@ -168,6 +169,32 @@ pub record ColumnShape (s : List ℕ) : Type 0 where
 
 pub column-shape : {s : List ℕ} → Is (columnSchema 2) s → ColumnShape s
 column-shape {s} i = held i (λ v e. let h = column-held e in record { shape = h .shape; wide = h .wide })
+
+-- ---- an entry of a list, a table or a column: what both have at the same place
+
+abbrev pub idNumber : List ℕ → ℕ
+idNumber s = num (take 8 (numbersOf s))
+
+pub record HasName (s : List ℕ) : Type 0 where
+  pub bundle : IsBundle 2 s
+  pub few : 1 < length (partsOf 2 s)
+
+pub record HasNumbers (s : List ℕ) : Type 0 where
+  pub bundle : IsBundle 2 s
+  pub few : 0 < length (partsOf 2 s)
+  pub wide : 8 ≤ length (numbersOf s)
+
+pub column-named : {s : List ℕ} → Is (columnSchema 2) s → HasName s
+column-named i = let r = column-shape i in record { bundle = r .shape .bundle; few = omega (arith, r .shape .count) }
+
+pub column-numbered : {s : List ℕ} → Is (columnSchema 2) s → HasNumbers s
+column-numbered i = let r = column-shape i in record { bundle = r .shape .bundle; few = omega (arith, r .shape .count); wide = omega (arith, r .wide) }
+
+pub table-named : {s : List ℕ} → Is table s → HasName s
+table-named i = let r = table-shape i in record { bundle = r .shape .bundle; few = omega (arith, r .shape .count) }
+
+pub table-numbered : {s : List ℕ} → Is table s → HasNumbers s
+table-numbered i = let r = table-shape i in record { bundle = r .shape .bundle; few = omega (arith, r .shape .count); wide = omega (arith, r .wide) }
 
 -- ---- a catalogue
 

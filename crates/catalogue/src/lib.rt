@@ -7,7 +7,9 @@ ghost use Rattle.codec.specs.Layout.{alone, listOf};
 ghost use Rattle.bundle.specs.Bundle.{isThere};
 ghost use Rattle.value.specs.Parts.{columnId, columnNumbers, columnSchema};
 ghost use Rattle.rules.specs.Tables.{ColumnSchema, TableSchema};
+ghost use Rattle.rules.specs.declared.ColumnId.{ColumnId};
 ghost use Rattle.catalogue.specs.Layout.{table};
+ghost use Rattle.catalogue.specs.Values.{HasName, HasNumbers, nameOf, idNumber};
 ghost use Rattle.bundle.specs.Held.{Holds, Is};
 
 // Whether bytes are a column's numbers: an id of 8 bytes, a type code and a mark.
@@ -160,6 +162,14 @@ pub fn key(t: &[u8]) -> &[u8]
     bundle::part(t, 2, 3)
 }
 
+// An id of a key's list, which stands alone.
+pub fn key_id(p: &[u8]) -> ColumnId
+    requires { ⌜ Is (alone columnId) (now p) ⌝ }
+    ensures { λ r. ⌜ ((v : ColumnId) → Holds (alone columnId) (now (p .entry)) v → r ≡ v) ⌝ }
+{
+    ColumnId(wire::get(p, 0, 8))
+}
+
 // ---- a column's fields
 
 pub fn column_id(c: &[u8]) -> ColumnId
@@ -198,4 +208,21 @@ pub fn column_name(c: &[u8]) -> &[u8]
     ensures { λ r. ⌜ ((v : ColumnSchema) → Holds (columnSchema 2) (now (c .entry)) v → now r ≡ v .name) ⌝ }
 {
     bundle::part(c, 2, 1)
+}
+
+// ---- what a table and a column have at the same place: who tells entries apart need not know which of the two they are
+
+pub fn entry_name(p: &[u8]) -> &[u8]
+    requires { ⌜ HasName (now p) ⌝ }
+    ensures { λ r. ⌜ now r ≡ nameOf (now (p .entry)) ⌝ }
+{
+    bundle::part(p, 2, 1)
+}
+
+pub fn entry_id(p: &[u8]) -> u64
+    requires { ⌜ HasNumbers (now p) ⌝ }
+    ensures { λ r. ⌜ r ≡ idNumber (now (p .entry)) ⌝ }
+{
+    let numbers = bundle::part(p, 2, 0);
+    wire::get(numbers, 0, 8)
 }

@@ -167,7 +167,7 @@ fn has_id(s: &[u8], id: ColumnId) -> bool
     let mut i = 0;
     while i < n {
         let end = bundle::next(s, 2, i, at);
-        if id.0 == wire::get(&s[at..end], 0, 8) {
+        if id.0 == catalogue::key_id(&s[at..end]).0 {
             return true;
         }
         at = end;

@@ -4,7 +4,6 @@ use mathlib.Core.Path.{_≡_, refl, sym, ap, ap₂, _∙_}
 use mathlib.Core.Bool.{Bool, not, _&&_}
 use mathlib.Core.List.{List, [], _∷_}
 use Prim.Native.Nat.{ℕ}
-use native.Mathlib.Omega.{arith}
 use lib.Dec.{eqb, eqb·suc-zero}
 use lib.ListN.{length}
 use Rattle.codec.specs.Layout.{alone, listOf}
@@ -19,7 +18,7 @@ use Rattle.apart.specs.declared.By.the-variants as by
 use Rattle.catalogue.specs.Layout.{table}
 use Rattle.catalogue.specs.Entries.{chain-is}
 use Rattle.bundle.specs.Held.{Holds, Is, list-count}
-use Rattle.catalogue.specs.Values.{id-held, id-wide, column-held, column-shape, table-held, table-shape}
+use Rattle.catalogue.specs.Values.{id-held, column-held, column-named, column-numbered, table-held, table-named, table-numbered}
 use Rattle.apart.specs.Repeats.{alikeBy, AllTold, distinct-held, all-told}
 
 -- a column's id is not 0
@@ -71,23 +70,19 @@ module _ (s : List ℕ) where
         (λ p q v w a b. ap₂ (λ (x y : TableId). eqb (x .0) (y .0)) (sym (table-held a .id)) (sym (table-held b .id))) s h
 
   pub columns-named : Is (listOf 2 (columnSchema 2)) s → AllTold by.Name s
-  columns-named = all-told (columnSchema 2) by.Name (λ p i. let r = column-shape i in record { bundle = r .shape .bundle; few = omega (arith, r .shape .count) }) s
+  columns-named = all-told (columnSchema 2) by.Name (λ p i. column-named i) s
 
   pub columns-told : Is (listOf 2 (columnSchema 2)) s → AllTold by.Id s
-  columns-told =
-      all-told (columnSchema 2) by.Id
-      (λ p i. let r = column-shape i in record { bundle = r .shape .bundle; few = omega (arith, r .shape .count); wide = omega (arith, r .wide) }) s
+  columns-told = all-told (columnSchema 2) by.Id (λ p i. column-numbered i) s
 
   pub ids-told : Is (listOf 2 (alone columnId)) s → AllTold by.Whole s
-  ids-told = all-told (alone columnId) by.Whole (λ p i. omega (arith, id-wide i)) s
+  ids-told = all-told (alone columnId) by.Whole (λ p i. i) s
 
   pub tables-named : Is (listOf 2 table) s → AllTold by.Name s
-  tables-named = all-told table by.Name (λ p i. let r = table-shape i in record { bundle = r .shape .bundle; few = omega (arith, r .shape .count) }) s
+  tables-named = all-told table by.Name (λ p i. table-named i) s
 
   pub tables-told : Is (listOf 2 table) s → AllTold by.Id s
-  tables-told =
-      all-told table by.Id
-      (λ p i. let r = table-shape i in record { bundle = r .shape .bundle; few = omega (arith, r .shape .count); wide = omega (arith, r .wide) }) s
+  tables-told = all-told table by.Id (λ p i. table-numbered i) s
 
 -- ---- the tests
 

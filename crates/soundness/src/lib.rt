@@ -76,7 +76,7 @@ fn is_key_id(p: &[u8], list: &[u8]) -> bool
     requires { ⌜ Is (alone columnId) (now p) × Is (listOf 2 (columnSchema 2)) (now list) ⌝ }
     ensures { λ r. ⌜ ((k : ColumnId) → Holds (alone columnId) (now (p .entry)) k → KeyedBy (now (list .entry)) (λ cs. r ≡ isKeyColumn cs k)) ⌝ }
 {
-    is_key_column(list, ColumnId(wire::get(p, 0, 8)))
+    is_key_column(list, catalogue::key_id(p))
 }
 
 fn are_key_ids(s: &[u8], list: &[u8]) -> bool

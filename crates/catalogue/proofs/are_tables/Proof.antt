@@ -5,6 +5,7 @@ use mathlib.Core.Path.{refl, sym}
 use mathlib.Core.Bool.{Bool}
 use mathlib.Core.List.{List}
 use Prim.Native.Nat.{ℕ, _-_}
+use native.Mathlib.Omega.{arith}
 use Rattle.codec.specs.Layout.{listOf}
 use Rattle.bundle.specs.Bundle.{isThere}
 use Rattle.bundle.specs.Decides.{failed, passed}
@@ -69,7 +70,7 @@ loop-again c =
     walk-on (b .before .before .loop .inv) (b .next .ensures) (passed (c .before .is-table-shape .ensures) (c .if2 .left))
 
 returns-3 : tie.Need-returns-3 Inv-loop μ-loop
-returns-3 c = walk-end (c .before .loop .inv) (c .loop-test .left)
+returns-3 c = walk-end (c .before .loop .inv) (omega arith)
 
 pub are-tables-spec : {M : Type 1} → statement M
 are-tables-spec =

@@ -3,7 +3,6 @@
 use Prim.Native.Nat.{ℕ, _-_}
 use Rattle.catalogue.specs.Entries.{any-hit, any-miss}
 use Rattle.bundle.specs.Held.{Holds, list-bundle, Along, along, along-on, part-is, Left, left, left-stop, left-on, left-end}
-use Rattle.catalogue.specs.Values.{id-wide, id-held}
 use Rattle.codec.specs.Layout.{alone}
 use Rattle.rules.specs.Lists.{any}
 use Rattle.rules.specs.Tables.{sameId}
@@ -35,30 +34,30 @@ loop-holds c = (along (alone columnId) (c .before .before .before .pre) (c .befo
 next-requires : tie.Need-next-requires Inv-loop μ-loop
 next-requires c κs = search needs
 
-sub-get : tie.Need-sub-get Inv-loop μ-loop
-sub-get c = search needs
+sub-key-id : tie.Need-sub-key-id Inv-loop μ-loop
+sub-key-id c = search needs
 
-part-get-start : tie.Need-part-get-start Inv-loop μ-loop
-part-get-start c = search needs
+part-key-id-start : tie.Need-part-key-id-start Inv-loop μ-loop
+part-key-id-start c = search needs
 
-part-get-end : tie.Need-part-get-end Inv-loop μ-loop
-part-get-end c = search needs
+part-key-id-end : tie.Need-part-key-id-end Inv-loop μ-loop
+part-key-id-end c = search needs
 
-get-requires : tie.Need-get-requires Inv-loop μ-loop
-get-requires c κs = let w = id-wide (part-is {f = alone columnId} (c .before .next .ensures) (c .before .before .before .before .before .before .before .pre)) in search needs
+key-id-requires : tie.Need-key-id-requires Inv-loop μ-loop
+key-id-requires c κs = part-is {f = alone columnId} (c .before .next .ensures) (c .before .before .before .before .before .before .before .pre)
 
 -- the id at hand
-abbrev here : (c : tie.After-get Inv-loop μ-loop) → List ℕ
+abbrev here : (c : tie.After-key-id Inv-loop μ-loop) → List ℕ
 here c = take (c .before .before .next .result - c .before .before .before .before .loop .at) (drop (c .before .before .before .before .loop .at) (c .before .before .before .before .before .before .before .before .args .s .now))
 
-told : (c : tie.After-get Inv-loop μ-loop) (v : ColumnId) → Holds (alone columnId) (here c) v → c .get .result ≡ v .0
-told c v h = c .get .ensures .is ∙ sym (ap (λ (x : ColumnId). x .0) (id-held (here c) h .id))
+told : (c : tie.After-key-id Inv-loop μ-loop) (v : ColumnId) → Holds (alone columnId) (here c) v → c .key-id .result .0 ≡ v .0
+told c v h = ap (λ (x : ColumnId). x .0) (c .key-id .ensures v h)
 
 returns : tie.Need-returns Inv-loop μ-loop
 returns c = λ vs h.
-    let l = c .before .before .before .before .before .before in
-    let g = c .before .before in
-    sym (left-stop (l .loop .inv .1) (c .before .before .before .before .next .ensures) (λ v r k.
+    let l = c .before .before .before .before .before .before .before in
+    let g = c .before .before .before in
+    sym (left-stop (l .loop .inv .1) (c .before .before .before .before .before .next .ensures) (λ v r k.
     any-hit (sameId (l .before .before .before .before .args .id)) v r (eq-eqb _ _ (c .if1 .taken ∙ told g v k))) vs h)
 
 add-i : tie.Need-add-i Inv-loop μ-loop
@@ -69,9 +68,9 @@ loop-less c = search needs
 
 loop-again : tie.Need-loop-again Inv-loop μ-loop
 loop-again c =
-    let l = c .before .before .before .before .before .before in
-    let g = c .before .before in
-    let d = c .before .before .before .before .next .ensures in (
+    let l = c .before .before .before .before .before .before .before in
+    let g = c .before .before .before in
+    let d = c .before .before .before .before .before .next .ensures in (
       along-on (l .loop .inv .0) d,
       left-on (l .loop .inv .1) d (λ v r k.
           any-miss (sameId (l .before .before .before .before .args .id)) v r (ne-eqb _ _ (λ e. c .if1 .left (e ∙ sym (told g v k))))),
@@ -90,10 +89,10 @@ has-id-spec =
     first-requires
     loop-holds
     next-requires
-    sub-get
-    part-get-start
-    part-get-end
-    get-requires
+    sub-key-id
+    part-key-id-start
+    part-key-id-end
+    key-id-requires
     returns
     add-i
     loop-less
