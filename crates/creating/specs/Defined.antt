@@ -1,12 +1,12 @@
 -- The columns of a CREATE TABLE one by one: what is judged of a column by itself, and the column that is made of it.
 -- Assumes nothing.
-use mathlib.Core.Path.{_≡_, refl, sym, ap, _∙_}
+use mathlib.Core.Path.{_≡_, refl, ap, _∙_}
 use mathlib.Core.Bool.{Bool, true, false, not, cond, _&&_}
 use mathlib.Core.List.{List, [], _∷_, _++_, map}
 use mathlib.Core.Option.{Option, none, some}
 use Prim.Native.Nat.{ℕ, _+_, _*_}
 use native.Mathlib.Omega.{arith}
-use lib.ListN.{length, length-append, length-map}
+use lib.ListN.{length, length-append}
 use Rattle.rules.specs.declared.Class.the-variants.{SchemaMismatch, ConstraintViolation, UnsupportedSql}
 use Rattle.rules.specs.declared.ColumnId.{ColumnId}
 use Rattle.rules.specs.declared.DataType.{DataType}
@@ -39,8 +39,8 @@ use Rattle.rules.specs.Analyze.{
 }
 use Rattle.resolving.specs.Steps.{steps-joined}
 use Rattle.resolving.specs.Tables.{newName, new-joined, canonical-length}
-use Rattle.codec.specs.Layout.{alone, listOf}
-use Rattle.value.specs.Parts.{columnId, columnSchema}
+use Rattle.codec.specs.Layout.{listOf}
+use Rattle.value.specs.Parts.{columnSchema}
 use Rattle.bound.specs.Layout.{boundStatement}
 use Rattle.bound.specs.Spelt.{column-length, ids-length}
 use Rattle.bound.specs.Sizes.{no-parts-length, more-parts-length, create-table-length}
