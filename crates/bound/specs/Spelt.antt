@@ -3,11 +3,10 @@
 use mathlib.Core.Path.{_≡_, refl, sym, ap, _∙_}
 use mathlib.Core.Bool.{Bool}
 use mathlib.Core.List.{List, [], _∷_, _++_}
-use Prim.Native.Nat.{ℕ, _+_, _*_, _<_}
-use native.Mathlib.Numerals.{add-one}
+use Prim.Native.Nat.{ℕ, zero, suc, _+_, _-_, _*_, _≤_, _<_}
 use native.Mathlib.Omega.{arith}
-use lib.ListN.{length, length-map, getD, drop}
-use lib.Seq.{drop-cons}
+use lib.ListN.{length, getD, take, drop}
+use lib.Seq.{length-take-le, getD-take}
 use lib.IntN.{ℤ}
 use mir.Syntax.{w64}
 use mir.Val.{ofZ}
@@ -20,8 +19,7 @@ use Rattle.rules.specs.declared.ColumnId.{ColumnId}
 use Rattle.rules.specs.Tables.{ColumnSchema}
 use Rattle.rules.specs.Bound.{Value.int, Value.text, Value.bool, Value.null, BoundTableRef, BoundColumnRef}
 use Rattle.bound.specs.Columns.{boundTableRef, boundColumnRef}
-use Rattle.bound.specs.Bundles.{lengths, bodies, lengths-length, list-length, record2, head2, record2-bytes}
-use Rattle.bound.specs.Made.{columnIds}
+use Rattle.bound.specs.Bundles.{lengths, bodies, bodies-next, list-length, record2, head2, record2-bytes}
 
 -- ---- tables and columns
 
@@ -91,26 +89,36 @@ null-length = refl
 abbrev ids : Format ColumnId
 ids = alone columnId
 
-pub ids-count : (ns : List ℕ) → length (columnIds ns) ≡ length ns
-ids-count ns = length-map ns (λ n. record { 0 = n })
+-- the lengths of n ids: each has 8 bytes
+unfoldable pub idLengths : ℕ → List ℕ
+idLengths zero = []
+idLengths (suc n) = le 4 8 ++ idLengths n
 
-pub ids-lengths : (ns : List ℕ) → length (lengths ids (columnIds ns)) ≡ 4 * length ns
-ids-lengths ns = lengths-length ids (columnIds ns) ∙ ap (λ (n : ℕ). 4 * n) (ids-count ns)
+pub id-lengths-length : (n : ℕ) → length (idLengths n) ≡ 4 * n
+unfolding idLengths
+id-lengths-length zero = refl
+id-lengths-length (suc n) = omega (arith, id-lengths-length n)
 
-pub ids-bodies : (ns : List ℕ) → length (bodies ids (columnIds ns)) ≡ 8 * length ns
+pub ids-lengths : (l : List ColumnId) → idLengths (length l) ≡ lengths ids l
+unfolding idLengths lengths
+ids-lengths [] = refl
+ids-lengths (i ∷ l) = ap (λ (m : List ℕ). le 4 8 ++ m) (ids-lengths l)
+
+pub ids-bodies : (l : List ColumnId) → length (bodies ids l) ≡ 8 * length l
 unfolding bodies
 ids-bodies [] = refl
-ids-bodies (n ∷ ns) = omega (arith, ids-bodies ns)
+ids-bodies (i ∷ l) = omega (arith, ids-bodies l)
 
-pub ids-length : (ns : List ℕ) → length (listOf 4 ids .write (columnIds ns)) ≡ 4 + 12 * length ns
-ids-length ns = list-length ids (columnIds ns) ∙ omega (arith, ids-bodies ns, ids-count ns)
+pub ids-length : (l : List ColumnId) → length (listOf 4 ids .write l) ≡ 4 + 12 * length l
+ids-length l = list-length ids l ∙ omega (arith, ids-bodies l)
 
 -- the next id of a loop
-module _ (ns : List ℕ) (i : ℕ) (h : i < length ns) where
-  pub ids-lengths-next : lengths ids (columnIds (drop i ns)) ≡ le 4 8 ++ lengths ids (columnIds (drop (i + 1) ns))
-  unfolding lengths
-  ids-lengths-next = rw (add-one, drop-cons ns i 0 h)
+pub id-lengths-next : (n i : ℕ) → i < n → idLengths (n - i) ≡ le 4 8 ++ idLengths (n - (i + 1))
+unfolding idLengths
+id-lengths-next n i h = let e : n - i ≡ suc (n - (i + 1)) = omega arith in ap idLengths e
 
-  pub ids-bodies-next : bodies ids (columnIds (drop i ns)) ≡ le 8 (getD ns i 0) ++ bodies ids (columnIds (drop (i + 1) ns))
-  unfolding bodies
-  ids-bodies-next = rw (add-one, drop-cons ns i 0 h)
+pub ids-bodies-next : (l : List ColumnId) (n i : ℕ) (z : ColumnId) → i < n → n ≤ length l
+    → bodies ids (drop i (take n l)) ≡ columnId .form .write (getD l i z) ++ bodies ids (drop (i + 1) (take n l))
+ids-bodies-next l n i z h g =
+    let k : i < length (take n l) = omega (arith, length-take-le n l g) in
+    bodies-next ids (take n l) i z k ∙ ap (λ (x : ColumnId). columnId .form .write x ++ bodies ids (drop (i + 1) (take n l))) (getD-take n l i z h)

@@ -1,14 +1,17 @@
 // What stands before the parts of a record, and a whole list: the ids of a primary key.
 ghost use mathlib.Core.Path.{_≡_};
 ghost use mathlib.Core.List.{List};
-ghost use Prim.Native.Nat.{ℕ, _+_, _*_, _^_, _≤_, _<_};
-ghost use lib.ListN.{length};
+ghost use Prim.Native.Nat.{ℕ, _+_, _*_, _≤_};
+ghost use lib.ListN.{length, take};
 ghost use Rattle.wire.specs.Sets.{Wrote};
 ghost use Rattle.codec.specs.Layout.{alone, listOf};
 ghost use Rattle.value.specs.Parts.{columnId};
-ghost use Rattle.bound.specs.Bundles.{head2, head3, lengths, bodies};
+ghost use Rattle.bound.specs.Bundles.{head2, head3, bodies};
 ghost use Rattle.bound.specs.Made.{columnIds};
+ghost use Rattle.bound.specs.Spelt.{idLengths};
 use crate::fields::put_count;
+use crate::fields::put_id;
+use rules::ColumnId;
 
 // A record of two parts, whose lengths are a and b: its first 12 bytes.
 pub fn put_head2(out: &mut [u8], at: usize, a: usize, b: usize) -> usize
@@ -31,40 +34,42 @@ pub fn put_head3(out: &mut [u8], at: usize, a: usize, b: usize, c: usize) -> usi
     wire::put(out, third, 4, c as u64)
 }
 
-// The length of each id: 8.
-fn put_id_lengths(out: &mut [u8], at: usize, ids: &[u64]) -> usize
-    requires { ⌜ at + 4 * length (now ids) ≤ length (now out) ⌝ }
-    ensures { λ r. ⌜ Wrote (now (out .entry)) at (lengths (alone columnId) (columnIds (now (ids .entry)))) r (now (out .exit)) ⌝ }
+// The length of each of n ids: 8.
+fn put_id_lengths(out: &mut [u8], at: usize, n: usize) -> usize
+    requires { ⌜ at + 4 * n ≤ length (now out) ⌝ }
+    ensures { λ r. ⌜ Wrote (now (out .entry)) at (idLengths n) r (now (out .exit)) ⌝ }
 {
     let mut i = 0;
     let mut to = at;
-    while i < ids.len() {
+    while i < n {
         to = wire::put(out, to, 4, 8);
         i += 1;
     }
     to
 }
 
-fn put_id_bodies(out: &mut [u8], at: usize, ids: &[u64]) -> usize
-    requires { ⌜ at + 8 * length (now ids) ≤ length (now out) ⌝ }
-    ensures { λ r. ⌜ Wrote (now (out .entry)) at (bodies (alone columnId) (columnIds (now (ids .entry)))) r (now (out .exit)) ⌝ }
+fn put_id_bodies(out: &mut [u8], at: usize, ids: [ColumnId; 64], n: usize) -> usize
+    requires { ⌜ (n ≤ 64) × (at + 8 * n ≤ length (now out)) ⌝ }
+    ensures { λ r. ⌜ Wrote (now (out .entry)) at (bodies (alone columnId) (take n ids)) r (now (out .exit)) ⌝ }
 {
     let mut i = 0;
     let mut to = at;
-    while i < ids.len() {
-        to = wire::put(out, to, 8, ids[i]);
+    while i < n {
+        let id = ids[i];
+        to = put_id(out, to, id);
         i += 1;
     }
     to
 }
 
-pub fn put_ids(out: &mut [u8], at: usize, ids: &[u64]) -> usize
-    requires { ⌜ (length (now ids) < 2 ^ 32) × (at + (4 + 12 * length (now ids)) ≤ length (now out)) ⌝ }
-    ensures { λ r. ⌜ Wrote (now (out .entry)) at (listOf 4 (alone columnId) .write (columnIds (now (ids .entry)))) r (now (out .exit)) ⌝ }
+// The first n of the ids: an array of ids can't be lent, and so its length can't tell how many they are.
+pub fn put_ids(out: &mut [u8], at: usize, ids: [ColumnId; 64], n: usize) -> usize
+    requires { ⌜ (n ≤ 64) × (at + (4 + 12 * n) ≤ length (now out)) ⌝ }
+    ensures { λ r. ⌜ Wrote (now (out .entry)) at (listOf 4 (alone columnId) .write (take n ids)) r (now (out .exit)) ⌝ }
 {
-    let a = put_count(out, at, ids.len());
-    let b = put_id_lengths(out, a, ids);
-    put_id_bodies(out, b, ids)
+    let a = put_count(out, at, n);
+    let b = put_id_lengths(out, a, n);
+    put_id_bodies(out, b, ids, n)
 }
 
 // No key is longer than an image may be, so nothing wraps.

@@ -8,7 +8,6 @@ ghost use Rattle.wire.specs.Sets.{Wrote};
 ghost use Rattle.codec.specs.Ways.{boolIndex};
 ghost use Rattle.codec.specs.Layout.{mark};
 ghost use Rattle.value.specs.Parts.{columnId, dataType, dataTypeNo, expressionType};
-ghost use Rattle.rules.specs.declared.ColumnId.{ColumnId};
 ghost use Rattle.rules.specs.Marking.{typeNo};
 ghost use Rattle.bound.specs.Expression.{marks};
 use rules::ColumnId;
@@ -35,12 +34,6 @@ pub fn count_len() -> usize
     ensures { λ r. ⌜ (r ≡ 4) × ((n : ℕ) → r ≡ length (le 4 n)) ⌝ }
 {
     4
-}
-
-pub fn id_len() -> usize
-    ensures { λ r. ⌜ (r ≡ 8) × ((id : ColumnId) → r ≡ length (columnId .form .write id)) ⌝ }
-{
-    8
 }
 
 pub fn put_byte(out: &mut [u8], at: usize, b: u8) -> usize

@@ -5,11 +5,10 @@ use mathlib.Core.Bool.{Bool, true, false, not, _&&_, and-false, and-true}
 use mathlib.Core.List.{List, [], _∷_, map}
 use Prim.Native.Nat.{ℕ, zero, suc, _+_, _-_, _*_, _≤_}
 use native.Mathlib.Omega.{arith}
-use lib.Dec.{eqb}
 use lib.ListN.{length, take, drop, length-map}
 use Rattle.codec.specs.Layout.{listOf}
 use Rattle.value.specs.Parts.{columnSchema}
-use Rattle.bound.specs.Made.{columnOf, columnIds}
+use Rattle.bound.specs.Made.{columnOf}
 use Rattle.bound.specs.Bundles.{bodies, list-length}
 use Rattle.bound.specs.Spelt.{column-length}
 use Rattle.bound.specs.Beside.{Listed, listed-space, wrote-long}
@@ -28,12 +27,12 @@ use Rattle.rules.specs.declared.DataType.{DataType}
 use Rattle.rules.specs.declared.DataType.the-variants as data-type
 use Rattle.rules.specs.Lists.{Text, any}
 use Rattle.rules.specs.Names.{canonical}
+use Rattle.rules.specs.Tables.{sameId}
 use Rattle.rules.specs.Statements.{Name, plain, ColumnType, known, otherType, ColumnDefinition}
 use Rattle.rules.specs.Analyze.{noOptions, options, outsideNull}
 use Rattle.statement.specs.Layout.{name, objectName, columnDefinition, columnTypeNo}
 use Rattle.creating.specs.Defined.{stated, typed, mayBeNull, schema, schemas, schemas-length, roomFor, room-is}
-use Rattle.created.specs.Parts.{madeColumns, Roomy, RoomyList, PlainName}
-use Rattle.created.proofs.Ids.{any-ids}
+use Rattle.created.specs.Parts.{idAt, madeColumns, Roomy, RoomyList, PlainName}
 
 -- ---- a type, by its code
 
@@ -63,14 +62,14 @@ in-key a e = sym (ap (λ (x : Bool). a && not x) e ∙ and-false a)
 pub out-of-key : (a : Bool) {b : Bool} → b ≡ false → a ≡ (a && not b)
 out-of-key a e = sym (ap (λ (x : Bool). a && not x) e ∙ and-true a)
 
-pub column-is : (ids : List ℕ) (i : ℕ) (v : ColumnDefinition) {ty : DataType} {nullable : Bool} {name : Text} → ty ≡ typed (v .ty)
-    → nullable ≡ (mayBeNull (stated (options noOptions (v .options))) && not (any (eqb (i + 1)) ids)) → name ≡ canonical (v .name)
-    → columnOf (record { 0 = i + 1 }) ty nullable name ≡ outsideNull (columnIds ids) (schema i v)
+pub column-is : (ids : List ColumnId) (i : ℕ) (v : ColumnDefinition) {ty : DataType} {nullable key : Bool} {name : Text} → ty ≡ typed (v .ty)
+    → nullable ≡ (mayBeNull (stated (options noOptions (v .options))) && not key) → key ≡ any (sameId (idAt i)) ids → name ≡ canonical (v .name)
+    → columnOf (idAt i) ty nullable name ≡ outsideNull ids (schema i v)
 unfolding schema
-column-is ids i v {ty} {nullable} {name} a b c =
-    ap₂ (λ (t : DataType) (n : Text). columnOf (record { 0 = i + 1 }) t nullable n) a c
-    ∙ ap (λ (x : Bool). columnOf (record { 0 = i + 1 }) (typed (v .ty)) x (canonical (v .name)))
-    (b ∙ ap (λ (x : Bool). mayBeNull (stated (options noOptions (v .options))) && not x) (sym (any-ids (record { 0 = i + 1 }) ids)))
+column-is ids i v {ty} {nullable} {key} {name} a b k c =
+    ap₂ (λ (t : DataType) (n : Text). columnOf (idAt i) t nullable n) a c
+    ∙ ap (λ (x : Bool). columnOf (idAt i) (typed (v .ty)) x (canonical (v .name)))
+    (b ∙ ap (λ (x : Bool). mayBeNull (stated (options noOptions (v .options))) && not x) k)
 
 pub column-size : (ids : List ColumnId) (i : ℕ) (v : ColumnDefinition) → length (columnSchema 4 .write (outsideNull ids (schema i v))) ≡ 22 + length (v .name .text)
 unfolding schema

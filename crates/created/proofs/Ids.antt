@@ -1,17 +1,17 @@
 -- The ids of a key, gathered one by one.
 -- Assumes nothing.
 use mathlib.Core.Path.{_≡_, refl, sym, ap, ap₂, _∙_, subst}
-use mathlib.Core.Bool.{Bool, true, false, _||_}
-use mathlib.Core.List.{List, [], _∷_, _++_, map, map-append}
+use mathlib.Core.Bool.{Bool, true, false, _||_, or-true, or-false, or-assoc}
+use mathlib.Core.List.{List, [], _∷_, _++_, map}
 use mathlib.Core.Option.{Option, none, some, Option·some-injective, Option·none-ne-some}
 use Prim.Native.Nat.{ℕ, _+_, _≤_, _<_}
 use native.Mathlib.Numerals.{add-one}
 use native.Mathlib.Omega.{arith}
-use lib.Dec.{eqb}
-use lib.ListN.{length, getD, take, drop, set, drop-of-length-le, length-drop, length-map}
-use lib.Seq.{drop-cons, take-suc-set, length-take-le}
+use borrow.Author.Count.{below-more}
+use borrow.Author.Tests.{eq-eqb, ne-eqb}
+use lib.ListN.{length, getD, take, drop, set, replicate, drop-of-length-le, length-drop, length-set, getD-replicate}
+use lib.Seq.{take-suc, take-suc-set, length-take-le, getD-set-same, getD-set-other}
 use Rattle.codec.specs.Layout.{listOf}
-use Rattle.bound.specs.Made.{columnIds}
 use Rattle.bundle.specs.Held.{Holds, held, list-count}
 use Rattle.repeats.specs.Repeats.{drop-next}
 use Rattle.repeats.specs.Entries.{ShortIn}
@@ -30,26 +30,47 @@ use Rattle.creating.specs.declared.Place.the-variants as place
 use Rattle.creating.specs.Defined.{schema, schemas, keyOf, keys-length}
 use Rattle.creating.specs.Keys.{FindsColumn, ColumnFound}
 use Rattle.creating.specs.Within.{FewColumns}
+use Rattle.created.specs.Parts.{idAt, Marked, KeyMarks}
 
--- ---- some number
+-- ---- the columns that ids stand for
 
-module _ (p : ℕ → Bool) (s : List ℕ) (i : ℕ) where
-  any-at : i < length s → any p (drop i s) ≡ (p (getD s i 0) || any p (drop (i + 1) s))
-  any-at h = rw (drop-cons s i 0 h, add-one) refl
+-- no column yet
+pub mark-none : (old : List Bool) (id : ColumnId) → Marked 0 old id old
+mark-none old id = record { long = refl; before = λ j h. absurd (omega (arith, h)); behind = λ j h. refl }
 
-  pub any-hit : i < length s → p (getD s i 0) ≡ true → any p (drop i s) ≡ true
-  any-hit h e = any-at h ∙ ap (λ (b : Bool). b || any p (drop (i + 1) s)) e
+module _ {n : ℕ} {old new : List Bool} {id : ColumnId} (m : Marked n old id new) where
+  -- column n has the id
+  pub mark-hit : n < length new → id .0 ≡ n + 1 → Marked (n + 1) old id (set new n true)
+  mark-hit h e = record {
+    long = length-set new n true ∙ m .long;
+    before = below-more (λ (j : ℕ). getD (set new n true) j false ≡ (getD old j false || sameId (idAt j) id)) n
+        (λ j k. let d : j ≡ n → ⊥ = λ x. omega (arith, x, k) in getD-set-other new n j true false d ∙ m .before j k)
+        (getD-set-same new n true false h ∙ sym (ap (λ (b : Bool). getD old n false || b) (eq-eqb (n + 1) (id .0) (sym e)) ∙ or-true (getD old n false)));
+    behind = λ j k. let d : j ≡ n → ⊥ = λ x. omega (arith, x, k) in let l : n ≤ j = omega (arith, k) in getD-set-other new n j true false d ∙ m .behind j l;
+  }
 
-  pub any-pass : i < length s → p (getD s i 0) ≡ false → any p (drop i s) ≡ any p (drop (i + 1) s)
-  any-pass h e = any-at h ∙ ap (λ (b : Bool). b || any p (drop (i + 1) s)) e
+  -- it has another
+  pub mark-pass : (id .0 ≡ n + 1 → ⊥) → Marked (n + 1) old id new
+  mark-pass f = record {
+    long = m .long;
+    before = below-more (λ (j : ℕ). getD new j false ≡ (getD old j false || sameId (idAt j) id)) n (m .before)
+        (m .behind n (omega arith) ∙ sym (ap (λ (b : Bool). getD old n false || b) (ne-eqb (n + 1) (id .0) (λ e. f (sym e))) ∙ or-false (getD old n false)));
+    behind = λ j k. let l : n ≤ j = omega (arith, k) in m .behind j l;
+  }
 
-  pub any-end : length s ≤ i → any p (drop i s) ≡ false
-  any-end h = ap (any p) (drop-of-length-le s {i = i} h)
+any-last : {A : Type 0} (p : A → Bool) (l : List A) (x : A) → any p (l ++ (x ∷ [])) ≡ (any p l || p x)
+any-last p [] x = or-false (p x)
+any-last p (y ∷ l) x = ap (λ (b : Bool). p y || b) (any-last p l x) ∙ sym (or-assoc (p y) (any p l) (p x))
 
--- an id among ids
-pub any-ids : (id : ColumnId) (ns : List ℕ) → any (sameId id) (columnIds ns) ≡ any (eqb (id .0)) ns
-any-ids id [] = refl
-any-ids id (n ∷ ns) = ap (λ (b : Bool). eqb (id .0) n || b) (any-ids id ns)
+pub no-marks : KeyMarks (replicate 64 false) []
+no-marks i h = getD-replicate 64 i false false h
+
+-- one id more
+pub marks-more : (ids : List ColumnId) (k : ℕ) (z : ColumnId) {old new : List Bool} → k < length ids → KeyMarks old (take k ids) → Marked 64 old (getD ids k z) new
+    → KeyMarks new (take (k + 1) ids)
+marks-more ids k z {old} {new} h m s i l =
+    s .before i l ∙ ap (λ (b : Bool). b || sameId (idAt i) (getD ids k z)) (m i l) ∙ sym (any-last (sameId (idAt i)) (take k ids) (getD ids k z))
+    ∙ ap (any (sameId (idAt i))) (sym (take-suc ids k z h) ∙ ap (λ (n : ℕ). take n ids) (sym (add-one k)))
 
 -- ---- the id of a name
 
@@ -61,9 +82,9 @@ place-few {s} {n} {r} {i} f q g e =
     let c = subst (FindsColumn cs (canonical w)) e (g cs w h k) in
     omega (arith, f .few, list-count columnDefinition s h, ap length (c .here), length-drop i cs)))
 
-pub place-id : (cs : List ColumnDefinition) (w : Text) {i : ℕ} {c : ColumnSchema} → ColumnFound cs w i → find (columnNamed w) (schemas 0 cs) ≡ some c → i + 1 ≡ c .id .0
+pub place-id : (cs : List ColumnDefinition) (w : Text) {i : ℕ} {c : ColumnSchema} → ColumnFound cs w i → find (columnNamed w) (schemas 0 cs) ≡ some c → idAt i ≡ c .id
 unfolding schema
-place-id cs w {i} {c} f e = ap (λ (x : ColumnSchema). x .id .0) (Option·some-injective (schema i (f .column)) c (sym (f .is) ∙ e))
+place-id cs w {i} {c} f e = ap (λ (x : ColumnSchema). x .id) (Option·some-injective (schema i (f .column)) c (sym (f .is) ∙ e))
 
 pub no-place : {o : Option ColumnSchema} {c : ColumnSchema} → o ≡ none → o ≡ some c → ⊥
 no-place {c = c} n e = Option·none-ne-some c (sym n ∙ e)
@@ -94,34 +115,33 @@ pub key-over : (cs : List ColumnSchema) (before : List ColumnId) {l : List Colum
 unfolding keyIds
 key-over cs before {l} e = cc
 
-pub ids-more : (ids : List ℕ) (k r : ℕ) (id : ColumnId) → k < length ids → r ≡ id .0 → columnIds (take (k + 1) (set ids k r)) ≡ columnIds (take k ids) ++ (id ∷ [])
+pub ids-more : (ids : List ColumnId) (k : ℕ) (r id : ColumnId) → k < length ids → r ≡ id → take (k + 1) (set ids k r) ≡ take k ids ++ (id ∷ [])
 ids-more ids k r id h e =
-    ap (λ (n : ℕ). columnIds (take n (set ids k r))) (add-one k) ∙ ap columnIds (take-suc-set ids k r h) ∙ map-append (λ n. record { 0 = n }) (take k ids) (r ∷ [])
-    ∙ ap (λ (n : ℕ). columnIds (take k ids) ++ (record { 0 = n } ∷ [])) e
+    ap (λ (n : ℕ). take n (set ids k r)) (add-one k) ∙ take-suc-set ids k r h ∙ ap (λ (x : ColumnId). take k ids ++ (x ∷ [])) e
 
 -- with the ids so far, the names that are left make the ids of all
-pub names-more : (cs : List ColumnSchema) (ids : List ℕ) (k : ℕ) (ns : List Name) {v : Name} {m : List Name} {l : List ColumnId} {r : ℕ}
-    → keyIds cs (columnIds (take k ids)) (map canonical (drop k ns)) ≡ given l → drop k ns ≡ v ∷ m → k < length ids
-    → ((c : ColumnSchema) → find (columnNamed (canonical v)) cs ≡ some c → r ≡ c .id .0)
-    → keyIds cs (columnIds (take (k + 1) (set ids k r))) (map canonical (drop (k + 1) ns)) ≡ given l
+pub names-more : (cs : List ColumnSchema) (ids : List ColumnId) (k : ℕ) (ns : List Name) {v : Name} {m : List Name} {l : List ColumnId} {r : ColumnId}
+    → keyIds cs (take k ids) (map canonical (drop k ns)) ≡ given l → drop k ns ≡ v ∷ m → k < length ids
+    → ((c : ColumnSchema) → find (columnNamed (canonical v)) cs ≡ some c → r ≡ c .id)
+    → keyIds cs (take (k + 1) (set ids k r)) (map canonical (drop (k + 1) ns)) ≡ given l
 names-more cs ids k ns {v} {m} {r = r} e d h g =
-    let s = key-step cs (columnIds (take k ids)) (canonical v) (map canonical m) (ap (λ (x : List Name). keyIds cs (columnIds (take k ids)) (map canonical x)) (sym d) ∙ e) in
+    let s = key-step cs (take k ids) (canonical v) (map canonical m) (ap (λ (x : List Name). keyIds cs (take k ids) (map canonical x)) (sym d) ∙ e) in
     ap₂ (λ (x : List ColumnId) (y : List Name). keyIds cs x (map canonical y)) (ids-more ids k r (s .column .id) h (g (s .column) (s .is))) (drop-next k ns d) ∙ s .rest
 
 -- no name is left
-pub names-over : (cs : List ColumnSchema) (ids : List ℕ) (k : ℕ) (ns : List Name) {l : List ColumnId}
-    → keyIds cs (columnIds (take k ids)) (map canonical (drop k ns)) ≡ given l → length ns ≤ k → k ≤ length ids → columnIds (take (length l) ids) ≡ l
+pub names-over : (cs : List ColumnSchema) (ids : List ColumnId) (k : ℕ) (ns : List Name) {l : List ColumnId}
+    → keyIds cs (take k ids) (map canonical (drop k ns)) ≡ given l → length ns ≤ k → k ≤ length ids → take (length l) ids ≡ l
 names-over cs ids k ns {l} e h g =
-    let o : columnIds (take k ids) ≡ l = key-over cs (columnIds (take k ids)) (ap (λ (x : List Name). keyIds cs (columnIds (take k ids)) (map canonical x)) (sym (drop-of-length-le ns {i = k} h)) ∙ e) in
-    let n : length l ≡ k = sym (ap length o) ∙ length-map (take k ids) (λ n. record { 0 = n }) ∙ length-take-le k ids g in
-    ap (λ (m : ℕ). columnIds (take m ids)) n ∙ o
+    let o : take k ids ≡ l = key-over cs (take k ids) (ap (λ (x : List Name). keyIds cs (take k ids) (map canonical x)) (sym (drop-of-length-le ns {i = k} h)) ∙ e) in
+    let n : length l ≡ k = sym (ap length o) ∙ length-take-le k ids g in
+    ap (λ (m : ℕ). take m ids) n ∙ o
 
 -- a key of one name
-pub one-id : (cs : List ColumnSchema) (n : Text) (ids : List ℕ) {l : List ColumnId} {r : ℕ} → keyIds cs [] (n ∷ []) ≡ given l → 0 < length ids
-    → ((c : ColumnSchema) → find (columnNamed n) cs ≡ some c → r ≡ c .id .0) → columnIds (take (length l) (set ids 0 r)) ≡ l
+pub one-id : (cs : List ColumnSchema) (n : Text) (ids : List ColumnId) {l : List ColumnId} {r : ColumnId} → keyIds cs [] (n ∷ []) ≡ given l → 0 < length ids
+    → ((c : ColumnSchema) → find (columnNamed n) cs ≡ some c → r ≡ c .id) → take (length l) (set ids 0 r) ≡ l
 one-id cs n ids {r = r} e h g =
     let s = key-step cs [] n [] e in
-    ap (λ (m : ℕ). columnIds (take m (set ids 0 r))) (keys-length cs [] (n ∷ []) e)
+    ap (λ (m : ℕ). take m (set ids 0 r)) (keys-length cs [] (n ∷ []) e)
     ∙ ids-more ids 0 r (s .column .id) h (g (s .column) (s .is)) ∙ key-over cs (s .column .id ∷ []) (s .rest)
 
 -- a key of given names

@@ -1,18 +1,19 @@
 -- The parts of a bound CREATE TABLE, and the room that a writer of each wants.
 -- Assumes nothing: these are definitions.
 use mathlib.Core.Path.{_≡_}
+use mathlib.Core.Bool.{Bool, false, _||_}
 use mathlib.Core.List.{List, map}
 use mathlib.Core.Option.{Option, some}
-use Prim.Native.Nat.{ℕ, _+_, _*_, _≤_}
-use lib.ListN.{length}
+use Prim.Native.Nat.{ℕ, _+_, _*_, _≤_, _<_}
+use lib.ListN.{length, getD}
 use Rattle.codec.specs.Layout.{listOf}
 use Rattle.bundle.specs.Held.{Holds}
 use Rattle.statement.specs.Layout.{objectName, columnDefinition, create}
 use Rattle.rules.specs.declared.ColumnId.{ColumnId}
-use Rattle.rules.specs.Lists.{Text}
+use Rattle.rules.specs.Lists.{Text, any}
 use Rattle.rules.specs.Answers.{given}
 use Rattle.rules.specs.Names.{canonical}
-use Rattle.rules.specs.Tables.{ColumnSchema}
+use Rattle.rules.specs.Tables.{ColumnSchema, sameId}
 use Rattle.rules.specs.Statements.{Name, plain, ColumnDefinition, CreateTable}
 use Rattle.rules.specs.Bound.{BoundCreateTable}
 use Rattle.rules.specs.Analyze.{outsideNull}
@@ -22,6 +23,20 @@ use Rattle.creating.specs.Keys.{KeyAt}
 
 abbrev pub columnName : ColumnDefinition → Option Name
 columnName c = some (c .name)
+
+-- the id of column i
+abbrev pub idAt : ℕ → ColumnId
+idAt i = record { 0 = i + 1 }
+
+-- of the first n marks, that of the column that an id stands for is set, and all others are as they were
+pub record Marked (n : ℕ) (old : List Bool) (id : ColumnId) (new : List Bool) : Type 0 where
+  pub long : length new ≡ length old
+  pub before : (j : ℕ) → j < n → getD new j false ≡ (getD old j false || sameId (idAt j) id)
+  pub behind : (j : ℕ) → n ≤ j → getD new j false ≡ getD old j false
+
+-- the marks of the columns that ids stand for
+abbrev pub KeyMarks : List Bool → List ColumnId → Type 0
+KeyMarks marks ids = (i : ℕ) → i < 64 → getD marks i false ≡ any (sameId (idAt i)) ids
 
 -- the columns of a table whose key has these ids
 abbrev pub madeColumns : List ColumnId → List ColumnDefinition → List ColumnSchema

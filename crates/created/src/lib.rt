@@ -23,14 +23,12 @@ ghost use mathlib.Core.Bool.{not, _&&_};
 ghost use mathlib.Core.List.{List, [], _∷_, map};
 ghost use mathlib.Core.Option.{Option, some};
 ghost use Prim.Native.Nat.{_+_, _≤_, _<_};
-ghost use lib.Dec.{eqb};
 ghost use lib.ListN.{length, take};
 ghost use Rattle.codec.specs.Layout.{listOf};
 ghost use Rattle.wire.specs.Sets.{Wrote};
 ghost use Rattle.value.specs.Parts.{columnSchema};
 ghost use Rattle.bundle.specs.Held.{Is, Holds};
 ghost use Rattle.bound.specs.Layout.{boundStatement, createTable};
-ghost use Rattle.bound.specs.Made.{columnIds};
 ghost use Rattle.statement.specs.Layout.{name, objectName, columnDefinition, create};
 ghost use Rattle.repeats.specs.Entries.{ShortIn};
 ghost use Rattle.rules.specs.declared.ColumnId.{ColumnId};
@@ -38,7 +36,7 @@ ghost use Rattle.rules.specs.Lists.{Text, any, find};
 ghost use Rattle.rules.specs.Answers.{given};
 ghost use Rattle.rules.specs.Analyze.{noOptions, options, outsideNull, keyIds, analyzeCreateTable};
 ghost use Rattle.rules.specs.Names.{canonical};
-ghost use Rattle.rules.specs.Tables.{ColumnSchema, Catalogue, columnNamed};
+ghost use Rattle.rules.specs.Tables.{ColumnSchema, Catalogue, sameId, columnNamed};
 ghost use Rattle.rules.specs.Statements.{Name, plain, ColumnDefinition, CreateTable};
 ghost use Rattle.rules.specs.Bound.{BoundStatement};
 ghost use Rattle.creating.specs.Defined.{stated, typed, mayBeNull, schema, schemas, keyOf};
@@ -46,7 +44,7 @@ ghost use Rattle.creating.specs.Keys.{KeyAt};
 ghost use Rattle.creating.specs.Within.{CreateWithin, FewColumns, FewNames, KeyIn};
 ghost use Rattle.resolving.specs.Room.{Bindable};
 ghost use Rattle.catalogue.specs.Layout.{catalogue};
-ghost use Rattle.created.specs.Parts.{columnName, madeColumns, tableOf, Roomy, RoomyList, PlainName, Writable};
+ghost use Rattle.created.specs.Parts.{columnName, idAt, Marked, KeyMarks, madeColumns, tableOf, Roomy, RoomyList, PlainName, Writable};
 
 // A name as it is compared, at the front of the room that the longest one takes.
 fn folded(n: &[u8]) -> [u8; 128]
@@ -57,20 +55,6 @@ fn folded(n: &[u8]) -> [u8; 128]
 }
 
 // ---- a column
-
-// Whether an id is among some.
-fn has(ids: &[u64], id: u64) -> bool
-    ensures { λ r. ⌜ r ≡ any (eqb id) (now (ids .entry)) ⌝ }
-{
-    let mut i = 0;
-    while i < ids.len() {
-        if id == ids[i] {
-            return true;
-        }
-        i += 1;
-    }
-    false
-}
 
 fn data_type(d: &[u8]) -> DataType
     requires { ⌜ Is columnDefinition (now d) ⌝ }
@@ -97,44 +81,74 @@ fn may_be_null(d: &[u8]) -> bool
     }
 }
 
-// Whether the column of an id may be null: those of the key may not.
-fn is_nullable(d: &[u8], id: u64, ids: &[u64]) -> bool
+// Whether a column may be null: one of the key may not.
+fn is_nullable(d: &[u8], in_key: bool) -> bool
     requires { ⌜ Is columnDefinition (now d) ⌝ }
     ensures { λ r. ⌜ ((v : ColumnDefinition) → Holds columnDefinition (now (d .entry)) v
-        → r ≡ (mayBeNull (stated (options noOptions (v .options))) && not (any (eqb id) (now (ids .entry))))) ⌝ }
+        → r ≡ (mayBeNull (stated (options noOptions (v .options))) && not «in_key»)) ⌝ }
 {
-    if has(ids, id) {
+    if in_key {
         return false;
     }
     may_be_null(d)
 }
 
-// Column i of a table whose key has these ids.
-fn put_column(out: &mut [u8], at: usize, d: &[u8], i: usize, ids: &[u64]) -> usize
+// Column i of a table, and whether it is one of the key.
+fn put_column(out: &mut [u8], at: usize, d: &[u8], i: usize, in_key: bool) -> usize
     requires { ⌜ ShortIn columnDefinition columnName (now d) × (i < 64) × Roomy (now d) at (length (now out)) ⌝ }
-    ensures { λ r. ⌜ ((v : ColumnDefinition) → Holds columnDefinition (now (d .entry)) v
-        → Wrote (now (out .entry)) at (columnSchema 4 .write (outsideNull (columnIds (now (ids .entry))) (schema i v))) r (now (out .exit))) ⌝ }
+    ensures { λ r. ⌜ ((v : ColumnDefinition) (ids : List ColumnId) → Holds columnDefinition (now (d .entry)) v → «in_key» ≡ any (sameId (idAt i)) ids
+        → Wrote (now (out .entry)) at (columnSchema 4 .write (outsideNull ids (schema i v))) r (now (out .exit))) ⌝ }
 {
     let n = create::column_name(d);
     let room = folded(n);
     let len = name_text(n).len();
-    let id = i as u64 + 1;
     put_column_schema(
         out,
         at,
-        ColumnId(id),
+        ColumnId(i as u64 + 1),
         data_type(d),
-        is_nullable(d, id, ids),
+        is_nullable(d, in_key),
         &room[..len],
     )
 }
 
-// The list of the columns: a column, then its length in front of the columns.
-fn put_columns(out: &mut [u8], at: usize, s: &[u8], ids: &[u64]) -> usize
-    requires { ⌜ FewColumns (now s) × RoomyList (now s) at (length (now out)) ⌝ }
-    ensures { λ r. ⌜ ((cs : List ColumnDefinition) → Holds (listOf 2 columnDefinition) (now (s .entry)) cs
-        → Wrote (now (out .entry)) at (listOf 4 (columnSchema 4) .write (madeColumns (columnIds (now (ids .entry))) cs)) r (now (out .exit))) ⌝ }
+// Marks the column that an id stands for: column i has the id i + 1.
+fn mark_id(marks: &mut [bool; 64], id: ColumnId)
+    requires { ⌜ length (now marks) ≡ 64 ⌝ }
+    ensures { λ r. ⌜ Marked 64 (now (marks .entry)) id (now (marks .exit)) ⌝ }
 {
+    let wanted = id.0;
+    let mut i = 0;
+    while i < 64 {
+        if wanted == i as u64 + 1 {
+            marks[i] = true;
+        }
+        i += 1;
+    }
+}
+
+// For each column whether the first n ids have its own. An array of ids can't be lent, and would be copied for each column that asked.
+fn key_marks(ids: [ColumnId; 64], n: usize) -> [bool; 64]
+    requires { ⌜ n ≤ 64 ⌝ }
+    ensures { λ r. ⌜ KeyMarks r (take n ids) ⌝ }
+{
+    let mut marks = [false; 64];
+    let mut k = 0;
+    while k < n {
+        let id = ids[k];
+        mark_id(&mut marks, id);
+        k += 1;
+    }
+    marks
+}
+
+// The list of the columns of a table whose key has the first `key_len` ids: a column, then its length in front of the columns.
+fn put_columns(out: &mut [u8], at: usize, s: &[u8], ids: [ColumnId; 64], key_len: usize) -> usize
+    requires { ⌜ FewColumns (now s) × RoomyList (now s) at (length (now out)) × («key_len» ≤ 64) ⌝ }
+    ensures { λ r. ⌜ ((cs : List ColumnDefinition) → Holds (listOf 2 columnDefinition) (now (s .entry)) cs
+        → Wrote (now (out .entry)) at (listOf 4 (columnSchema 4) .write (madeColumns (take «key_len» ids) cs)) r (now (out .exit))) ⌝ }
+{
+    let marks = key_marks(ids, key_len);
     let n = bundle::parts(s, 2);
     let lengths = put_count(out, at, n);
     let mut to = lengths;
@@ -143,7 +157,7 @@ fn put_columns(out: &mut [u8], at: usize, s: &[u8], ids: &[u64]) -> usize
     let mut i = 0;
     while i < n {
         let end = bundle::next(s, 2, i, from);
-        let after = put_column(out, body, &s[from..end], i, ids);
+        let after = put_column(out, body, &s[from..end], i, marks[i]);
         to = put_count(out, to, after - body);
         body = after;
         from = end;
@@ -155,24 +169,25 @@ fn put_columns(out: &mut [u8], at: usize, s: &[u8], ids: &[u64]) -> usize
 // ---- the ids of the key
 
 // The id of the column that a name stands for.
-fn id_of(columns: &[u8], n: &[u8]) -> u64
+fn id_of(columns: &[u8], n: &[u8]) -> ColumnId
     requires { ⌜ FewColumns (now columns) × ShortIn name some (now n) ⌝ }
     ensures { λ r. ⌜ ((cs : List ColumnDefinition) (w : Name) (c : ColumnSchema) → Holds (listOf 2 columnDefinition) (now (columns .entry)) cs
-        → Holds name (now (n .entry)) w → find (columnNamed (canonical w)) (schemas 0 cs) ≡ some c → r ≡ c .id .0) ⌝ }
+        → Holds name (now (n .entry)) w → find (columnNamed (canonical w)) (schemas 0 cs) ≡ some c → r ≡ c .id) ⌝ }
 {
     match column_called(columns, n) {
-        Place::At(i) => i as u64 + 1,
+        Place::At(i) => ColumnId(i as u64 + 1),
         // never: each name of a bound key is a column's
-        Place::Nowhere => 0,
+        Place::Nowhere => ColumnId(0),
     }
 }
 
-fn name_ids(columns: &[u8], names: &[u8]) -> [u64; 64]
+fn name_ids(columns: &[u8], names: &[u8]) -> [ColumnId; 64]
     requires { ⌜ FewColumns (now columns) × FewNames (now names) ⌝ }
     ensures { λ r. ⌜ ((cs : List ColumnDefinition) (ns : List Name) (l : List ColumnId) → Holds (listOf 2 columnDefinition) (now (columns .entry)) cs
-        → Holds (listOf 2 name) (now (names .entry)) ns → keyIds (schemas 0 cs) [] (map canonical ns) ≡ given l → columnIds (take (length l) r) ≡ l) ⌝ }
+        → Holds (listOf 2 name) (now (names .entry)) ns → keyIds (schemas 0 cs) [] (map canonical ns) ≡ given l → take (length l) r ≡ l) ⌝ }
 {
-    let mut ids = [0u64; 64];
+    let none = ColumnId(0);
+    let mut ids = [none; 64];
     let n = bundle::parts(names, 2);
     let mut at = bundle::first(names, 2);
     let mut k = 0;
@@ -185,26 +200,30 @@ fn name_ids(columns: &[u8], names: &[u8]) -> [u64; 64]
     ids
 }
 
-fn one_id(columns: &[u8], n: &[u8]) -> [u64; 64]
+fn one_id(columns: &[u8], n: &[u8]) -> [ColumnId; 64]
     requires { ⌜ FewColumns (now columns) × ShortIn name some (now n) ⌝ }
     ensures { λ r. ⌜ ((cs : List ColumnDefinition) (w : Name) (l : List ColumnId) → Holds (listOf 2 columnDefinition) (now (columns .entry)) cs
-        → Holds name (now (n .entry)) w → keyIds (schemas 0 cs) [] (canonical w ∷ []) ≡ given l → columnIds (take (length l) r) ≡ l) ⌝ }
+        → Holds name (now (n .entry)) w → keyIds (schemas 0 cs) [] (canonical w ∷ []) ≡ given l → take (length l) r ≡ l) ⌝ }
 {
-    let mut ids = [0u64; 64];
+    let none = ColumnId(0);
+    let mut ids = [none; 64];
     ids[0] = id_of(columns, n);
     ids
 }
 
 // The ids of the key's columns, at the front of the room that the longest key takes.
-fn key_ids(s: &[u8], key: Key) -> [u64; 64]
+fn key_ids(s: &[u8], key: Key) -> [ColumnId; 64]
     requires { ⌜ CreateWithin (now s) × KeyIn (now s) key ⌝ }
     ensures { λ r. ⌜ ((v : CreateTable) (names : Option (List Text)) (l : List ColumnId) → Holds create (now (s .entry)) v
-        → KeyAt (v .columns) (v .constraints) key names → keyOf (schemas 0 (v .columns)) names ≡ given l → columnIds (take (length l) r) ≡ l) ⌝ }
+        → KeyAt (v .columns) (v .constraints) key names → keyOf (schemas 0 (v .columns)) names ≡ given l → take (length l) r ≡ l) ⌝ }
 {
     let columns = create::columns(s);
     match key {
         // never: a bound statement has a key
-        Key::Nowhere => [0u64; 64],
+        Key::Nowhere => {
+            let none = ColumnId(0);
+            [none; 64]
+        }
         Key::Column(i) => one_id(columns, create::column_name(bundle::part(columns, 2, i))),
         Key::Constrained(j) => {
             let c = bundle::part(create::constraints(s), 2, j);
@@ -252,8 +271,8 @@ fn put_table(s: &[u8], key: Key, out: &mut [u8]) -> usize
     let ids = key_ids(s, key);
     let n = key_len(s, key);
     let columns = put_name(out, 17, create::table_name(s));
-    let key_list = put_columns(out, columns, create::columns(s), &ids[..n]);
-    let end = put_ids(out, key_list, &ids[..n]);
+    let key_list = put_columns(out, columns, create::columns(s), ids, n);
+    let end = put_ids(out, key_list, ids, n);
     put_head3(out, 1, columns - 17, key_list - columns, end - key_list);
     end
 }

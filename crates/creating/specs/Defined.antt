@@ -1,12 +1,12 @@
 -- The columns of a CREATE TABLE one by one: what is judged of a column by itself, and the column that is made of it.
 -- Assumes nothing.
-use mathlib.Core.Path.{_≡_, refl, sym, ap, _∙_}
+use mathlib.Core.Path.{_≡_, refl, ap, _∙_}
 use mathlib.Core.Bool.{Bool, true, false, not, cond, _&&_}
 use mathlib.Core.List.{List, [], _∷_, _++_, map}
 use mathlib.Core.Option.{Option, none, some}
 use Prim.Native.Nat.{ℕ, _+_, _*_}
 use native.Mathlib.Omega.{arith}
-use lib.ListN.{length, length-append, length-map}
+use lib.ListN.{length, length-append}
 use Rattle.rules.specs.declared.Class.the-variants.{SchemaMismatch, ConstraintViolation, UnsupportedSql}
 use Rattle.rules.specs.declared.ColumnId.{ColumnId}
 use Rattle.rules.specs.declared.DataType.{DataType}
@@ -39,10 +39,9 @@ use Rattle.rules.specs.Analyze.{
 }
 use Rattle.resolving.specs.Steps.{steps-joined}
 use Rattle.resolving.specs.Tables.{newName, new-joined, canonical-length}
-use Rattle.codec.specs.Layout.{alone, listOf}
-use Rattle.value.specs.Parts.{columnId, columnSchema}
+use Rattle.codec.specs.Layout.{listOf}
+use Rattle.value.specs.Parts.{columnSchema}
 use Rattle.bound.specs.Layout.{boundStatement}
-use Rattle.bound.specs.Made.{columnIds}
 use Rattle.bound.specs.Spelt.{column-length, ids-length}
 use Rattle.bound.specs.Sizes.{no-parts-length, more-parts-length, create-table-length}
 
@@ -236,17 +235,8 @@ room-is ids i (c ∷ cs) =
 
 -- ---- how long the whole is
 
-ids-back : (ids : List ColumnId) → columnIds (map (λ (i : ColumnId). i .0) ids) ≡ ids
-ids-back [] = refl
-ids-back (i ∷ ids) = ap (λ (l : List ColumnId). i ∷ l) (ids-back ids)
-
-pub ids-size : (ids : List ColumnId) → length (listOf 4 (alone columnId) .write ids) ≡ 4 + 12 * length ids
-ids-size ids =
-    ap (λ (l : List ColumnId). length (listOf 4 (alone columnId) .write l)) (sym (ids-back ids)) ∙ ids-length (map (λ (i : ColumnId). i .0) ids)
-    ∙ ap (λ (n : ℕ). 4 + 12 * n) (length-map ids (λ (i : ColumnId). i .0))
-
 pub created-size : (t : Text) (cs : List ColumnDefinition) (ids : List ColumnId)
     → length (boundStatement .write (created t (schemas 0 cs) ids)) ≡ 17 + length t + roomFor cs + (4 + 12 * length ids)
 created-size t cs ids =
     create-table-length (record { tableName = t; columns = map (outsideNull ids) (schemas 0 cs); key = ids })
-    ∙ omega (arith, room-is ids 0 cs, ids-size ids)
+    ∙ omega (arith, room-is ids 0 cs, ids-length ids)

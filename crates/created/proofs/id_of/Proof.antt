@@ -15,8 +15,8 @@ column-called-requires c κs = search needs
 enum-known-i : tie.Need-enum-known-i
 enum-known-i c = search needs
 
-add-result : tie.Need-add-result
-add-result c = omega (arith, place-few (c .before .before .before .before .before .before .pre .0) (c .before .before .before .before .before .before .pre .1) (c .before .before .before .column-called .ensures) (c .before .i .given .1))
+add-t7 : tie.Need-add-t7
+add-t7 c = omega (arith, place-few (c .before .before .before .before .before .before .pre .0) (c .before .before .before .before .before .before .pre .1) (c .before .before .before .column-called .ensures) (c .before .i .given .1))
 
 enum-told : tie.Need-enum-told
 enum-told c = search needs
@@ -31,4 +31,4 @@ returns-2 c = λ cs w x h k e.
 
 pub id-of-spec : {M : Type 1} → statement M
 id-of-spec =
-    tie.close (tie.spec column-called-requires enum-known-i add-result enum-told returns returns-2)
+    tie.close (tie.spec column-called-requires enum-known-i add-t7 enum-told returns returns-2)

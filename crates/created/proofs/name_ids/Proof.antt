@@ -8,7 +8,6 @@ use denote.Ref.{now}
 use native.Mathlib.Omega.{arith}
 use lib.ListN.{length, take, drop, length-set}
 use Rattle.codec.specs.Layout.{listOf}
-use Rattle.bound.specs.Made.{columnIds}
 use Rattle.bundle.specs.Held.{Holds, Along, along, along-on, list-bundle, list-count, turn}
 use Rattle.repeats.specs.Short.{short-part}
 use Rattle.rules.specs.declared.ColumnId.{ColumnId}
@@ -25,7 +24,7 @@ use Rattle.created.proofs.name_ids.Tie as tie
 abbrev Inv-loop : tie.InvT-loop
 Inv-loop columns names ids₀ n at₀ k₀ ids at k = Along names n k at × (length ids ≡ 64) × (
     (cs : List ColumnDefinition) (ns : List Name) (l : List ColumnId) → Holds (listOf 2 columnDefinition) columns cs → Holds (listOf 2 name) names ns
-    → keyIds (schemas 0 cs) [] (map canonical ns) ≡ given l → keyIds (schemas 0 cs) (columnIds (take k ids)) (map canonical (drop k ns)) ≡ given l)
+    → keyIds (schemas 0 cs) [] (map canonical ns) ≡ given l → keyIds (schemas 0 cs) (take k ids) (map canonical (drop k ns)) ≡ given l)
 
 abbrev μ-loop : tie.MeasureT-loop
 μ-loop columns names ids₀ n at₀ k₀ ids at k = n - k
@@ -57,8 +56,8 @@ id-of-requires c κs = (c .before .before .before .before .before .before .befor
 mul-ids : tie.Need-mul-ids Inv-loop μ-loop
 mul-ids c = omega (arith, c .before .before .before .before .loop .inv .0 .count, c .before .before .before .loop-test .taken, c .before .before .before .before .before .before .before .before .before .pre .1 .few)
 
-array-write-ids : tie.Need-array-write-ids Inv-loop μ-loop
-array-write-ids c = omega (arith, c .before .before .before .before .loop .inv .0 .count, c .before .before .before .loop-test .taken, c .before .before .before .before .before .before .before .before .before .pre .1 .few)
+array-set-from-ids : tie.Need-array-set-from-ids Inv-loop μ-loop
+array-set-from-ids c = omega (arith, c .before .before .before .before .loop .inv .0 .count, c .before .before .before .loop-test .taken, c .before .before .before .before .before .before .before .before .before .pre .1 .few)
 
 add-k : tie.Need-add-k Inv-loop μ-loop
 add-k c = search needs
@@ -99,7 +98,7 @@ name-ids-spec =
     part-id-of-end
     id-of-requires
     mul-ids
-    array-write-ids
+    array-set-from-ids
     add-k
     loop-less
     loop-again

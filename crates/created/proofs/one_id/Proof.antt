@@ -12,11 +12,11 @@ use Rattle.created.proofs.one_id.Tie as tie
 id-of-requires : tie.Need-id-of-requires
 id-of-requires c κs = search needs
 
-array-write-ids : tie.Need-array-write-ids
-array-write-ids c = search needs
+array-set-from-ids : tie.Need-array-set-from-ids
+array-set-from-ids c = search needs
 
 returns : tie.Need-returns
-returns c = λ cs w l h k e. one-id (schemas 0 cs) (canonical w) (replicate 64 0) e (omega arith) (λ x f. c .id-of .ensures cs w x h k f)
+returns c = λ cs w l h k e. one-id (schemas 0 cs) (canonical w) (replicate 64 (record { 0 = 0 })) e (omega arith) (λ x f. c .id-of .ensures cs w x h k f)
 
 pub one-id-spec : {M : Type 1} → statement M
-one-id-spec = tie.close (tie.spec id-of-requires array-write-ids returns)
+one-id-spec = tie.close (tie.spec id-of-requires array-set-from-ids returns)

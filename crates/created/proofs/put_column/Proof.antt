@@ -16,43 +16,43 @@ use Rattle.created.proofs.put_column.Statement.{statement}
 use Rattle.created.proofs.put_column.Tie as tie
 
 column-name-requires : tie.Need-column-name-requires
-column-name-requires c κs = c .before .before .before .pre .0 .is
+column-name-requires c κs = c .before .before .pre .0 .is
 
 folded-requires : tie.Need-folded-requires
-folded-requires c κs = short-inside (c .before .before .before .before .pre .0) (in-column (c .column-name .ensures))
+folded-requires c κs = short-inside (c .before .before .before .pre .0) (in-column (c .column-name .ensures))
 
 name-text-requires : tie.Need-name-text-requires
-name-text-requires c κs = short-inside (c .before .before .before .before .before .pre .0) (in-column (c .before .column-name .ensures)) .is
+name-text-requires c κs = short-inside (c .before .before .before .before .pre .0) (in-column (c .before .column-name .ensures)) .is
 
-add-id : tie.Need-add-id
-add-id c = search needs
+add-t14 : tie.Need-add-t14
+add-t14 c = search needs
 
 data-type-requires : tie.Need-data-type-requires
-data-type-requires c κs = c .before .before .before .before .before .before .before .pre .0 .is
+data-type-requires c κs = c .before .before .before .before .before .before .pre .0 .is
 
 is-nullable-requires : tie.Need-is-nullable-requires
-is-nullable-requires c κs = c .before .before .before .before .before .before .before .before .pre .0 .is
+is-nullable-requires c κs = c .before .before .before .before .before .before .before .pre .0 .is
 
 array-share-prefix-room : tie.Need-array-share-prefix-room
-array-share-prefix-room c = omega (arith, short-length (short-inside (c .before .before .before .before .before .before .before .before .before .pre .0) (in-column (c .before .before .before .before .before .column-name .ensures))) (c .before .before .before .name-text .ensures))
+array-share-prefix-room c = omega (arith, short-length (short-inside (c .before .before .before .before .before .before .before .before .pre .0) (in-column (c .before .before .before .before .before .column-name .ensures))) (c .before .before .before .name-text .ensures))
 
 slice-aggregate-put-column-schema : tie.Need-slice-aggregate-put-column-schema
-slice-aggregate-put-column-schema c = sym (length-take-le _ (c .before .before .before .before .before .folded .result) (omega (arith, short-length (short-inside (c .before .before .before .before .before .before .before .before .before .before .pre .0) (in-column (c .before .before .before .before .before .before .column-name .ensures))) (c .before .before .before .before .name-text .ensures))))
+slice-aggregate-put-column-schema c = sym (length-take-le _ (c .before .before .before .before .before .folded .result) (omega (arith, short-length (short-inside (c .before .before .before .before .before .before .before .before .before .pre .0) (in-column (c .before .before .before .before .before .before .column-name .ensures))) (c .before .before .before .before .name-text .ensures))))
 
 put-column-schema-requires : tie.Need-put-column-schema-requires
 put-column-schema-requires c κs =
-    let w = c .before .before .before .before .before .before .before .before .before .before .pre in
-    let r = length-take-le (length (now (c .before .before .before .before .name-text .result))) (c .before .before .before .before .before .folded .result) (omega (arith, short-length (short-inside (c .before .before .before .before .before .before .before .before .before .before .pre .0) (in-column (c .before .before .before .before .before .before .column-name .ensures))) (c .before .before .before .before .name-text .ensures))) in
+    let w = c .before .before .before .before .before .before .before .before .before .pre in
+    let r = length-take-le (length (now (c .before .before .before .before .name-text .result))) (c .before .before .before .before .before .folded .result) (omega (arith, short-length (short-inside (c .before .before .before .before .before .before .before .before .before .pre .0) (in-column (c .before .before .before .before .before .before .column-name .ensures))) (c .before .before .before .before .name-text .ensures))) in
     held (w .0 .is) (λ v h. omega (arith, w .2 .fits v h, ap length (c .before .before .before .before .name-text .ensures (v .name) (c .before .before .before .before .before .before .column-name .ensures v h)), r))
 
 same-length : tie.Need-same-length
 same-length c = search needs
 
 returns : tie.Need-returns
-returns c = λ v h.
-    let a = c .before .before .before .before .before .before .before .before .before .before .before .before .before .args in
+returns c = λ v ids h m.
+    let a = c .before .before .before .before .before .before .before .before .before .before .before .before .args in
     let k = c .before .before .before .before .before .before .before .before .before .column-name .ensures v h in
-    spelt (ap (columnSchema 4 .write) (column-is (now (a .ids)) (a .i) v (c .before .before .before .before .before .data-type .ensures v h) (c .before .before .before .before .is-nullable .ensures v h)
+    spelt (ap (columnSchema 4 .write) (column-is ids (a .i) v (c .before .before .before .before .before .data-type .ensures v h) (c .before .before .before .before .is-nullable .ensures v h) m
     (ap (λ (n : ℕ). take n (c .before .before .before .before .before .before .before .before .folded .result)) (ap length (c .before .before .before .before .before .before .before .name-text .ensures (v .name) k)) ∙ c .before .before .before .before .before .before .before .before .folded .ensures (v .name) k)))
     (c .before .before .put-column-schema .ensures)
 
@@ -63,7 +63,7 @@ put-column-spec =
     column-name-requires
     folded-requires
     name-text-requires
-    add-id
+    add-t14
     data-type-requires
     is-nullable-requires
     array-share-prefix-room

@@ -2,23 +2,33 @@
 -- Assumes nothing.
 use borrow.Author.Needs.{needs}
 use mathlib.Core.Path.{_∙_}
-use Prim.Native.Nat.{_-_}
+use mathlib.Core.List.{List}
+use Prim.Native.Nat.{_-_, _<_}
+use lib.ListN.{take}
 use native.Mathlib.Omega.{arith}
 use denote.Ref.{now}
-use Rattle.bound.specs.Made.{columnIds}
+use Rattle.rules.specs.declared.ColumnId.{ColumnId}
 use Rattle.bound.specs.Beside.{listed-none, listed-more, listed-all, beside-long, wrote-long}
 use Rattle.bundle.specs.Held.{held, Along, along, along-on, list-bundle, list-count, turn}
 use Rattle.repeats.specs.Short.{short-part}
 use Rattle.statement.specs.Layout.{columnDefinition}
+use Rattle.created.specs.Parts.{KeyMarks}
 use Rattle.created.proofs.Columns.{made-next, made-length, room-least, ColumnsSoFar, column-room, column-went}
 use Rattle.created.proofs.put_columns.Statement.{statement}
 use Rattle.created.proofs.put_columns.Tie as tie
 
 abbrev Inv-loop : tie.InvT-loop
-Inv-loop out₀ at s ids n lengths to₀ body₀ from₀ i₀ out to body from i = Along s n i from × ColumnsSoFar s (columnIds ids) at out₀ i lengths to body out
+Inv-loop out₀ at s key-len marks n lengths to₀ body₀ from₀ i₀ out to body from i =
+    Along s n i from × ((ids : List ColumnId) → KeyMarks marks ids → ColumnsSoFar s ids at out₀ i lengths to body out)
 
 abbrev μ-loop : tie.MeasureT-loop
-μ-loop out₀ at s ids n lengths to₀ body₀ from₀ i₀ out to body from i = n - i
+μ-loop out₀ at s key-len marks n lengths to₀ body₀ from₀ i₀ out to body from i = n - i
+
+abbrev key : (c : tie.Start Inv-loop μ-loop) → List ColumnId
+key c = take (c .args .key-len) (c .args .ids)
+
+key-marks-requires : tie.Need-key-marks-requires Inv-loop μ-loop
+key-marks-requires c κs = c .before .before .pre .2
 
 parts-requires : tie.Need-parts-requires Inv-loop μ-loop
 parts-requires c κs = let r = list-bundle columnDefinition (c .before .before .before .pre .0 .short .is) in search needs
@@ -41,11 +51,11 @@ first-requires c κs = let r = list-bundle columnDefinition (c .before .before .
 loop-holds : tie.Need-loop-holds Inv-loop μ-loop
 loop-holds c = (
   along columnDefinition (c .before .before .before .before .before .before .before .before .before .pre .0 .short .is) (c .before .before .before .before .before .parts .ensures) (c .first .ensures),
-  record {
+  λ ids m. record {
     short = c .before .before .before .before .before .before .before .before .before .pre .0 .short;
     room = record { fits = λ cs h. omega (arith, c .before .before .before .before .before .before .before .before .before .pre .1 .fits cs h, wrote-long (c .before .before .before .put-count .ensures)) };
     begun = c .before .before .before .put-count .ensures .end;
-    listed = λ cs h. listed-none (omega (arith, c .before .before .before .before .before .parts .ensures, made-length (columnIds (now (c .before .before .before .before .before .before .before .before .before .args .ids))) cs, list-count columnDefinition (now (c .before .before .before .before .before .before .before .before .before .args .s)) h));
+    listed = λ cs h. listed-none (omega (arith, c .before .before .before .before .before .parts .ensures, made-length ids cs, list-count columnDefinition (now (c .before .before .before .before .before .before .before .before .before .args .s)) h));
   },
 )
 
@@ -61,17 +71,31 @@ part-put-column-start c = search needs
 part-put-column-end : tie.Need-part-put-column-end Inv-loop μ-loop
 part-put-column-end c = search needs
 
+array-read-put-column : tie.Need-array-read-put-column Inv-loop μ-loop
+array-read-put-column c = omega (arith, c .before .before .before .before .loop .inv .0 .count, c .before .before .before .before .before .before .before .before .before .before .before .before .before .before .pre .0 .few, c .before .before .before .loop-test .taken)
+
 put-column-requires : tie.Need-put-column-requires Inv-loop μ-loop
 put-column-requires c κs =
     let l = c .before .before .before .before .loop in
     let p = c .before .before .before .before .before .before .before .before .before .before .before .before .before .before .pre in
-    (short-part (p .0 .short) (c .before .before .next .ensures), omega (arith, l .inv .0 .count, p .0 .few, c .before .before .before .loop-test .taken), column-room (l .inv .1) (c .before .before .next .ensures) .column)
+    (short-part (p .0 .short) (c .before .before .next .ensures), omega (arith, l .inv .0 .count, p .0 .few, c .before .before .before .loop-test .taken), column-room (l .inv .1 (key (c .before .before .before .before .before .before .before .before .before .before .before .before .before .before)) (c .before .before .before .before .before .before .before .before .before .before .before .key-marks .ensures)) (c .before .before .next .ensures) .column)
 
 sub-put-count : tie.Need-sub-put-count Inv-loop μ-loop
-sub-put-count c = column-went (c .before .before .before .before .before .before .before .before .loop .inv .1) (c .before .before .before .before .before .before .next .ensures) (c .before .before .before .put-column .ensures) .0
+sub-put-count c =
+    let l = c .before .before .before .before .before .before .before .before .loop in
+    let s = c .before .before .before .before .before .before .before .before .before .before .before .before .before .before .before .before .before .before in
+    let m = c .before .before .before .before .before .before .before .before .before .before .before .before .before .before .before .key-marks .ensures in
+    let few : l .i < 64 = omega (arith, l .inv .0 .count, s .pre .0 .few, c .before .before .before .before .before .before .before .loop-test .taken) in
+    column-went (l .inv .1 (key s) m) (c .before .before .before .before .before .before .next .ensures) (λ v h. c .before .before .before .put-column .ensures v (key s) h (m (l .i) few)) .0
 
 put-count-requires-2 : tie.Need-put-count-requires-2 Inv-loop μ-loop
-put-count-requires-2 c κs = let w = column-went (c .before .before .before .before .before .before .before .before .loop .inv .1) (c .before .before .before .before .before .before .next .ensures) (c .before .before .before .put-column .ensures) in (omega (arith, w .1), w .2)
+put-count-requires-2 c κs =
+    let l = c .before .before .before .before .before .before .before .before .loop in
+    let s = c .before .before .before .before .before .before .before .before .before .before .before .before .before .before .before .before .before .before in
+    let m = c .before .before .before .before .before .before .before .before .before .before .before .before .before .before .before .key-marks .ensures in
+    let few : l .i < 64 = omega (arith, l .inv .0 .count, s .pre .0 .few, c .before .before .before .before .before .before .before .loop-test .taken) in
+    let w = column-went (l .inv .1 (key s) m) (c .before .before .before .before .before .before .next .ensures) (λ v h. c .before .before .before .put-column .ensures v (key s) h (m (l .i) few)) in
+    (omega (arith, w .1), w .2)
 
 add-i : tie.Need-add-i Inv-loop μ-loop
 add-i c = search needs
@@ -82,28 +106,36 @@ loop-less c = search needs
 loop-again : tie.Need-loop-again Inv-loop μ-loop
 loop-again c =
     let l = c .before .before .before .before .before .before .before .before .before .before .before .loop in
-    let d = c .before .before .before .before .before .before .before .before .before .next .ensures in (
+    let s = c .before .before .before .before .before .before .before .before .before .before .before .before .before .before .before .before .before .before .before .before .before in
+    let d = c .before .before .before .before .before .before .before .before .before .next .ensures in
+    let few : l .i < 64 = omega (arith, l .inv .0 .count, s .pre .0 .few, c .before .before .before .before .before .before .before .before .before .before .loop-test .taken) in (
       along-on (l .inv .0) d,
-      record {
-        short = l .inv .1 .short;
-        room = l .inv .1 .room;
-        begun = l .inv .1 .begun;
-        listed = λ cs h.
-            let t = turn d h in
-            listed-more (l .inv .1 .listed cs h) (made-next (columnIds (now (c .before .before .before .before .before .before .before .before .before .before .before .before .before .before .before .before .before .before .before .before .before .args .ids))) cs (l .i) (t .rest)) (c .before .before .before .before .before .before .put-column .ensures (t .value) (t .holds)) (c .before .before .put-count2 .ensures);
-      },
+      λ ids m.
+          let o = l .inv .1 ids m in
+          record {
+            short = o .short;
+            room = o .room;
+            begun = o .begun;
+            listed = λ cs h.
+                let t = turn d h in
+                listed-more (o .listed cs h) (made-next ids cs (l .i) (t .rest)) (c .before .before .before .before .before .before .put-column .ensures (t .value) ids (t .holds) (m (l .i) few)) (c .before .before .put-count2 .ensures);
+          },
     )
 
 same-length : tie.Need-same-length Inv-loop μ-loop
-same-length c = held (c .before .before .before .before .before .before .before .before .before .before .before .pre .0 .short .is) (λ cs h. beside-long (c .before .loop .inv .1 .listed cs h .beside) ∙ wrote-long (c .before .before .before .before .before .put-count .ensures))
+same-length c =
+    let s = c .before .before .before .before .before .before .before .before .before .before .before in
+    let o = c .before .loop .inv .1 (key s) (c .before .before .before .before .before .before .before .before .key-marks .ensures) in
+    held (s .pre .0 .short .is) (λ cs h. beside-long (o .listed cs h .beside) ∙ wrote-long (c .before .before .before .before .before .put-count .ensures))
 
 returns : tie.Need-returns Inv-loop μ-loop
 returns c = λ cs h.
     let l = c .before .loop in
-    let a = c .before .before .before .before .before .before .before .before .before .before .before .args in
-    let n = made-length (columnIds (now (a .ids))) cs in
-    let k = list-count columnDefinition (now (a .s)) h in
-    listed-all (l .inv .1 .listed cs h) (omega (arith, n, k, l .inv .0 .count, c .loop-test .left)) (c .before .before .before .before .before .put-count .ensures) (omega (arith, n, k, l .inv .0 .count))
+    let s = c .before .before .before .before .before .before .before .before .before .before .before in
+    let o = l .inv .1 (key s) (c .before .before .before .before .before .before .before .before .key-marks .ensures) in
+    let n = made-length (key s) cs in
+    let k = list-count columnDefinition (now (s .args .s)) h in
+    listed-all (o .listed cs h) (omega (arith, n, k, l .inv .0 .count, c .loop-test .left)) (c .before .before .before .before .before .put-count .ensures) (omega (arith, n, k, l .inv .0 .count))
 
 pub put-columns-spec : {M : Type 1} → statement M
 put-columns-spec =
@@ -111,6 +143,7 @@ put-columns-spec =
     (tie.spec
     Inv-loop
     μ-loop
+    key-marks-requires
     parts-requires
     put-count-requires
     mul-body
@@ -121,6 +154,7 @@ put-columns-spec =
     sub-put-column
     part-put-column-start
     part-put-column-end
+    array-read-put-column
     put-column-requires
     sub-put-count
     put-count-requires-2

@@ -1,12 +1,10 @@
 -- `created::put_table` meets its contract.
 -- Assumes nothing.
-use mathlib.Core.Path.{sym, ap, _∙_, subst}
+use mathlib.Core.Path.{ap, _∙_, subst}
 use Prim.Native.Nat.{ℕ}
 use denote.Ref.{now}
 use native.Mathlib.Omega.{arith}
 use lib.ListN.{take}
-use lib.Seq.{length-take-le}
-use Rattle.bound.specs.Made.{columnIds}
 use Rattle.bundle.specs.Held.{Holds}
 use Rattle.statement.specs.Layout.{objectName}
 use Rattle.creating.specs.Within.{few-columns}
@@ -30,37 +28,28 @@ put-name-requires c κs = plain-name (c .before .before .before .before .before 
 columns-requires : tie.Need-columns-requires
 columns-requires c κs = search needs
 
-array-share-prefix-ids : tie.Need-array-share-prefix-ids
-array-share-prefix-ids c = search needs
-
-slice-aggregate-put-columns : tie.Need-slice-aggregate-put-columns
-slice-aggregate-put-columns c = sym (length-take-le (c .before .before .before .before .before .before .before .before .key-len .result) (c .before .before .before .before .before .before .before .before .before .key-ids .result) (omega (arith, c .before .before .before .before .before .before .before .before .key-len .ensures .0)))
-
 put-columns-requires : tie.Need-put-columns-requires
 put-columns-requires c κs =
-    let z = name-end (c .before .before .before .before .before .before .before .before .before .before .before .before .pre .1) (now (c .before .before .before .before .before .before .table-name .result)) (c .before .before .before .before .before .before .table-name .ensures) (c .before .before .before .before .before .put-name .ensures) in
-    (few-columns (c .before .before .before .before .before .before .before .before .before .before .before .before .pre .0) (c .before .columns .ensures), columns-room (c .before .before .before .before .before .before .before .before .before .before .before .before .pre .1) (now (c .before .columns .result)) (c .before .columns .ensures) (z .0) (z .1))
-
-array-share-prefix-ids-2 : tie.Need-array-share-prefix-ids-2
-array-share-prefix-ids-2 c = search needs
-
-slice-aggregate-put-ids : tie.Need-slice-aggregate-put-ids
-slice-aggregate-put-ids c = sym (length-take-le (c .before .before .before .before .before .before .before .before .before .before .before .before .before .key-len .result) (c .before .before .before .before .before .before .before .before .before .before .before .before .before .before .key-ids .result) (omega (arith, c .before .before .before .before .before .before .before .before .before .before .before .before .before .key-len .ensures .0)))
+    let w = c .before .before .before .before .before .before .before .before .before .before .before .pre in
+    let z = name-end (w .1) (now (c .before .before .before .before .before .table-name .result)) (c .before .before .before .before .before .table-name .ensures) (c .before .before .before .before .put-name .ensures) in
+    (few-columns (w .0) (c .columns .ensures), columns-room (w .1) (now (c .columns .result)) (c .columns .ensures) (z .0) (z .1), c .before .before .before .before .before .before .before .key-len .ensures .0)
 
 put-ids-requires : tie.Need-put-ids-requires
 put-ids-requires c κs =
-    let w = c .before .before .before .before .before .before .before .before .before .before .before .before .before .before .before .before .before .pre .1 in
-    let z = name-end (c .before .before .before .before .before .before .before .before .before .before .before .before .before .before .before .before .before .pre .1) (now (c .before .before .before .before .before .before .before .before .before .before .before .table-name .result)) (c .before .before .before .before .before .before .before .before .before .before .before .table-name .ensures) (c .before .before .before .before .before .before .before .before .before .before .put-name .ensures) in
-    let y = columns-end (c .before .before .before .before .before .before .before .before .before .before .before .before .before .before .before .before .before .pre .1) (now (c .before .before .before .before .before .before .columns .result)) (c .before .before .before .before .before .before .columns .ensures) (columnIds (take (c .before .before .before .before .before .before .before .before .before .before .before .before .before .key-len .result) (c .before .before .before .before .before .before .before .before .before .before .before .before .before .before .key-ids .result))) (c .before .before .before .before .put-columns .ensures) in
-    let r = length-take-le (c .before .before .before .before .before .before .before .before .before .before .before .before .before .key-len .result) (c .before .before .before .before .before .before .before .before .before .before .before .before .before .before .key-ids .result) (omega (arith, c .before .before .before .before .before .before .before .before .before .before .before .before .before .key-len .ensures .0)) in
-    let k = c .before .before .before .before .before .before .before .before .before .before .before .before .before .key-len .ensures .1 (w .value) (w .names) (w .ids) (w .whole) (w .at) (w .gives) in
-    (omega (arith, r, c .before .before .before .before .before .before .before .before .before .before .before .before .before .key-len .ensures .0), omega (arith, r, k, z .0, z .1, y .0, y .1, w .fits))
+    let w = c .before .before .before .before .before .before .before .before .before .before .before .before .before .before .before .pre .1 in
+    let n = c .before .before .before .before .before .before .before .before .before .before .before .key-len in
+    let z = name-end w (now (c .before .before .before .before .before .before .before .before .before .table-name .result)) (c .before .before .before .before .before .before .before .before .before .table-name .ensures) (c .before .before .before .before .before .before .before .before .put-name .ensures) in
+    let y = columns-end w (now (c .before .before .before .before .columns .result)) (c .before .before .before .before .columns .ensures) (take (n .result) (c .before .before .before .before .before .before .before .before .before .before .before .before .key-ids .result)) (c .before .before .before .put-columns .ensures) in
+    let k = n .ensures .1 (w .value) (w .names) (w .ids) (w .whole) (w .at) (w .gives) in
+    (n .ensures .0, omega (arith, k, z .0, z .1, y .0, y .1, w .fits))
 
 sub-put-head3 : tie.Need-sub-put-head3
-sub-put-head3 c = let z = name-end (c .before .before .before .before .before .before .before .before .before .before .before .before .before .before .before .before .before .before .before .before .before .pre .1) (now (c .before .before .before .before .before .before .before .before .before .before .before .before .before .before .before .table-name .result)) (c .before .before .before .before .before .before .before .before .before .before .before .before .before .before .before .table-name .ensures) (c .before .before .before .before .before .before .before .before .before .before .before .before .before .before .put-name .ensures) in omega (arith, z .0)
+sub-put-head3 c = let z = name-end (c .before .before .before .before .before .before .before .before .before .before .before .before .before .before .before .before .before .before .before .pre .1) (now (c .before .before .before .before .before .before .before .before .before .before .before .before .before .table-name .result)) (c .before .before .before .before .before .before .before .before .before .before .before .before .before .table-name .ensures) (c .before .before .before .before .before .before .before .before .before .before .before .before .put-name .ensures) in omega (arith, z .0)
 
 sub-put-head3-2 : tie.Need-sub-put-head3-2
-sub-put-head3-2 c = let y = columns-end (c .before .before .before .before .before .before .before .before .before .before .before .before .before .before .before .before .before .before .before .before .before .pre .1) (now (c .before .before .before .before .before .before .before .before .before .before .columns .result)) (c .before .before .before .before .before .before .before .before .before .before .columns .ensures) (columnIds (take (c .before .before .before .before .before .before .before .before .before .before .before .before .before .before .before .before .before .key-len .result) (c .before .before .before .before .before .before .before .before .before .before .before .before .before .before .before .before .before .before .key-ids .result))) (c .before .before .before .before .before .before .before .before .put-columns .ensures) in omega (arith, y .0)
+sub-put-head3-2 c =
+    let y = columns-end (c .before .before .before .before .before .before .before .before .before .before .before .before .before .before .before .before .before .before .before .pre .1) (now (c .before .before .before .before .before .before .before .before .columns .result)) (c .before .before .before .before .before .before .before .before .columns .ensures) (take (c .before .before .before .before .before .before .before .before .before .before .before .before .before .before .before .key-len .result) (c .before .before .before .before .before .before .before .before .before .before .before .before .before .before .before .before .key-ids .result)) (c .before .before .before .before .before .before .before .put-columns .ensures) in
+    omega (arith, y .0)
 
 sub-put-head3-3 : tie.Need-sub-put-head3-3
 sub-put-head3-3 c = search needs
@@ -73,9 +62,10 @@ same-length c = search needs
 
 returns : tie.Need-returns
 returns c = λ v n names l h p k e.
-    let i = ap (λ (m : ℕ). columnIds (take m (c .before .before .before .before .before .before .before .before .before .before .before .before .before .before .before .before .before .before .before .before .before .key-ids .result))) (c .before .before .before .before .before .before .before .before .before .before .before .before .before .before .before .before .before .before .before .before .key-len .ensures .1 v names l h k e) ∙ c .before .before .before .before .before .before .before .before .before .before .before .before .before .before .before .before .before .before .before .before .before .key-ids .ensures v names l h k e in
-    let o = subst (Holds objectName (now (c .before .before .before .before .before .before .before .before .before .before .before .before .before .before .before .before .before .before .table-name .result))) p (c .before .before .before .before .before .before .before .before .before .before .before .before .before .before .before .before .before .before .table-name .ensures v h) in
-    table-wrote n (v .columns) i (c .before .before .before .before .before .before .before .before .before .before .before .before .before .before .before .before .before .put-name .ensures n o) (c .before .before .before .before .before .before .before .before .before .before .before .put-columns .ensures (v .columns) (c .before .before .before .before .before .before .before .before .before .before .before .before .before .columns .ensures v h)) (c .before .before .before .before .before .before .put-ids .ensures) (c .before .before .put-head3 .ensures)
+    let ids = c .before .before .before .before .before .before .before .before .before .before .before .before .before .before .before .before .before .before .before .key-ids in
+    let i = ap (λ (m : ℕ). take m (ids .result)) (c .before .before .before .before .before .before .before .before .before .before .before .before .before .before .before .before .before .before .key-len .ensures .1 v names l h k e) ∙ ids .ensures v names l h k e in
+    let o = subst (Holds objectName (now (c .before .before .before .before .before .before .before .before .before .before .before .before .before .before .before .before .table-name .result))) p (c .before .before .before .before .before .before .before .before .before .before .before .before .before .before .before .before .table-name .ensures v h) in
+    table-wrote n (v .columns) i (c .before .before .before .before .before .before .before .before .before .before .before .before .before .before .before .put-name .ensures n o) (c .before .before .before .before .before .before .before .before .before .before .put-columns .ensures (v .columns) (c .before .before .before .before .before .before .before .before .before .before .before .columns .ensures v h)) (c .before .before .before .before .before .before .put-ids .ensures) (c .before .before .put-head3 .ensures)
 
 pub put-table-spec : {M : Type 1} → statement M
 put-table-spec =
@@ -86,11 +76,7 @@ put-table-spec =
     table-name-requires
     put-name-requires
     columns-requires
-    array-share-prefix-ids
-    slice-aggregate-put-columns
     put-columns-requires
-    array-share-prefix-ids-2
-    slice-aggregate-put-ids
     put-ids-requires
     sub-put-head3
     sub-put-head3-2

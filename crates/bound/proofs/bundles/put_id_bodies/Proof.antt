@@ -4,39 +4,45 @@ use borrow.Author.Needs.{needs}
 use native.Mathlib.Omega.{arith}
 use mathlib.Core.List.{List}
 use Prim.Native.Nat.{ℕ, _-_, _≤_}
-use lib.ListN.{length, drop, length-drop, drop-of-length-le}
+use lib.ListN.{length, take, drop, length-drop, drop-of-length-le}
+use lib.Seq.{length-take-le}
 use Rattle.codec.specs.Layout.{alone}
 use Rattle.value.specs.Parts.{columnId}
+use Rattle.rules.specs.declared.ColumnId.{ColumnId}
 use Rattle.bound.specs.Bundles.{bodies}
-use Rattle.bound.specs.Made.{columnIds}
 use Rattle.bound.specs.Spelt.{ids-bodies, ids-bodies-next}
 use Rattle.bound.specs.Written.{Rest, rest-all, rest-less, rest-none}
 use Rattle.bound.proofs.bundles.put_id_bodies.Statement.{statement}
 use Rattle.bound.proofs.bundles.put_id_bodies.Tie as tie
 
-abbrev left : List ℕ → ℕ → List ℕ
-left ids i = bodies (alone columnId) (columnIds (drop i ids))
+abbrev left : List ColumnId → ℕ → ℕ → List ℕ
+left ids n i = bodies (alone columnId) (drop i (take n ids))
 
 abbrev Inv-loop : tie.InvT-loop
-Inv-loop out₀ at ids i₀ to₀ out i to = (i ≤ length ids) × Rest out₀ at (bodies (alone columnId) (columnIds ids)) (left ids i) to out
+Inv-loop out₀ at n ids i₀ to₀ out i to = (i ≤ n) × Rest out₀ at (bodies (alone columnId) (take n ids)) (left ids n i) to out
 
 abbrev μ-loop : tie.MeasureT-loop
-μ-loop out₀ at ids i₀ to₀ out i to = length ids - i
+μ-loop out₀ at n ids i₀ to₀ out i to = n - i
+
+-- an array's list has the array's length
+long : (c : tie.Start Inv-loop μ-loop) → c .args .n ≤ length (c .args .t3)
+long c = search needs
 
 loop-holds : tie.Need-loop-holds Inv-loop μ-loop
 loop-holds c = (omega arith, rest-all _ _ _)
 
-mul-put : tie.Need-mul-put Inv-loop μ-loop
-mul-put c = search needs
+mul-id : tie.Need-mul-id Inv-loop μ-loop
+mul-id c = search needs
 
-shared-slice-read-put : tie.Need-shared-slice-read-put Inv-loop μ-loop
-shared-slice-read-put c = search needs
+array-copy-out-id : tie.Need-array-copy-out-id Inv-loop μ-loop
+array-copy-out-id c = search needs
 
-put-requires : tie.Need-put-requires Inv-loop μ-loop
-put-requires c κs =
+put-id-requires : tie.Need-put-id-requires Inv-loop μ-loop
+put-id-requires c κs =
     let l = c .before .before .before .loop in
-    let ids = c .before .before .before .before .before .before .args .ids .now in
-    omega (arith, l .inv .1 .room, l .inv .1 .long, ids-bodies ids, ids-bodies (drop (l .i) ids), length-drop (l .i) ids)
+    let s = c .before .before .before .before .before in
+    let n = length-take-le (s .args .n) (s .args .t3) (long s) in
+    omega (arith, l .inv .1 .room, l .inv .1 .long, ids-bodies (take (s .args .n) (s .args .t3)), ids-bodies (drop (l .i) (take (s .args .n) (s .args .t3))), length-drop (l .i) (take (s .args .n) (s .args .t3)), n, s .pre .1)
 
 add-i : tie.Need-add-i Inv-loop μ-loop
 add-i c = search needs
@@ -47,8 +53,11 @@ loop-less c = search needs
 loop-again : tie.Need-loop-again Inv-loop μ-loop
 loop-again c =
     let l = c .before .before .before .before .before .before .loop in
-    let ids = c .before .before .before .before .before .before .before .before .before .args .ids .now in
-    (omega arith, rest-less (rw (ids-bodies-next ids (l .i) (c .before .before .before .before .before .loop-test .taken)) at (l .inv .1)) (c .before .before .put .ensures))
+    let s = c .before .before .before .before .before .before .before .before in (
+      omega arith,
+      rest-less (rw (ids-bodies-next (s .args .t3) (s .args .n) (l .i) (record { 0 = 0 }) (c .before .before .before .before .before .loop-test .taken) (long s)) at (l .inv .1))
+          (c .before .before .put-id .ensures),
+    )
 
 same-length : tie.Need-same-length Inv-loop μ-loop
 same-length c = c .before .loop .inv .1 .long
@@ -57,8 +66,9 @@ returns : tie.Need-returns Inv-loop μ-loop
 unfolding bodies
 returns c =
     let l = c .before .loop in
-    let ids = c .before .before .before .before .args .ids .now in
-    rest-none (rw (drop-of-length-le ids {i = l .i} (c .loop-test .left)) at (l .inv .1))
+    let s = c .before .before .before in
+    let n = length-take-le (s .args .n) (s .args .t3) (long s) in
+    rest-none (rw (drop-of-length-le (take (s .args .n) (s .args .t3)) {i = l .i} (omega (arith, n, c .loop-test .left))) at (l .inv .1))
 
 pub put-id-bodies-spec : {M : Type 1} → statement M
 put-id-bodies-spec =
@@ -67,9 +77,9 @@ put-id-bodies-spec =
     Inv-loop
     μ-loop
     loop-holds
-    mul-put
-    shared-slice-read-put
-    put-requires
+    mul-id
+    array-copy-out-id
+    put-id-requires
     add-i
     loop-less
     loop-again

@@ -2,35 +2,31 @@
 -- Assumes nothing.
 use borrow.Author.Needs.{needs}
 use native.Mathlib.Omega.{arith}
+use mathlib.Core.Path.{_≡_, subst}
 use mathlib.Core.List.{List}
 use Prim.Native.Nat.{ℕ, _-_, _≤_}
-use lib.ListN.{length, drop, length-drop, drop-of-length-le}
-use Rattle.codec.specs.Layout.{alone}
-use Rattle.value.specs.Parts.{columnId}
-use Rattle.bound.specs.Bundles.{lengths}
-use Rattle.bound.specs.Made.{columnIds}
-use Rattle.bound.specs.Spelt.{ids-lengths, ids-lengths-next}
+use Rattle.bound.specs.Spelt.{idLengths, id-lengths-length, id-lengths-next}
 use Rattle.bound.specs.Written.{Rest, rest-all, rest-less, rest-none}
 use Rattle.bound.proofs.bundles.put_id_lengths.Statement.{statement}
 use Rattle.bound.proofs.bundles.put_id_lengths.Tie as tie
 
-abbrev left : List ℕ → ℕ → List ℕ
-left ids i = lengths (alone columnId) (columnIds (drop i ids))
-
 abbrev Inv-loop : tie.InvT-loop
-Inv-loop out₀ at ids i₀ to₀ out i to = (i ≤ length ids) × Rest out₀ at (lengths (alone columnId) (columnIds ids)) (left ids i) to out
+Inv-loop out₀ at n i₀ to₀ out i to = (i ≤ n) × Rest out₀ at (idLengths n) (idLengths (n - i)) to out
 
 abbrev μ-loop : tie.MeasureT-loop
-μ-loop out₀ at ids i₀ to₀ out i to = length ids - i
+μ-loop out₀ at n i₀ to₀ out i to = n - i
+
+begun : (o : List ℕ) (at n : ℕ) → Rest o at (idLengths n) (idLengths (n - 0)) at o
+begun o at n = let e : n ≡ n - 0 = omega arith in subst (λ (k : ℕ). Rest o at (idLengths n) (idLengths k) at o) e (rest-all o at (idLengths n))
 
 loop-holds : tie.Need-loop-holds Inv-loop μ-loop
-loop-holds c = (omega arith, rest-all _ _ _)
+loop-holds c = (omega arith, begun _ _ _)
 
 put-requires : tie.Need-put-requires Inv-loop μ-loop
 put-requires c κs =
     let l = c .before .before .loop in
-    let ids = c .before .before .before .before .before .args .ids .now in
-    omega (arith, l .inv .1 .room, l .inv .1 .long, ids-lengths ids, ids-lengths (drop (l .i) ids), length-drop (l .i) ids)
+    let n = c .before .before .before .before .args .n in
+    omega (arith, l .inv .1 .room, l .inv .1 .long, id-lengths-length n, id-lengths-length (n - l .i))
 
 add-i : tie.Need-add-i Inv-loop μ-loop
 add-i c = search needs
@@ -41,18 +37,19 @@ loop-less c = search needs
 loop-again : tie.Need-loop-again Inv-loop μ-loop
 loop-again c =
     let l = c .before .before .before .before .before .loop in
-    let ids = c .before .before .before .before .before .before .before .before .args .ids .now in
-    (omega arith, rest-less (rw (ids-lengths-next ids (l .i) (c .before .before .before .before .loop-test .taken)) at (l .inv .1)) (c .before .before .put .ensures))
+    let n = c .before .before .before .before .before .before .before .args .n in
+    (omega arith, rest-less (rw (id-lengths-next n (l .i) (c .before .before .before .before .loop-test .taken)) at (l .inv .1)) (c .before .before .put .ensures))
 
 same-length : tie.Need-same-length Inv-loop μ-loop
 same-length c = c .before .loop .inv .1 .long
 
 returns : tie.Need-returns Inv-loop μ-loop
-unfolding lengths
+unfolding idLengths
 returns c =
     let l = c .before .loop in
-    let ids = c .before .before .before .before .args .ids .now in
-    rest-none (rw (drop-of-length-le ids {i = l .i} (c .loop-test .left)) at (l .inv .1))
+    let n = c .before .before .before .args .n in
+    let e : n - l .i ≡ 0 = omega (arith, c .loop-test .left) in
+    rest-none (rw e at (l .inv .1))
 
 pub put-id-lengths-spec : {M : Type 1} → statement M
 put-id-lengths-spec =

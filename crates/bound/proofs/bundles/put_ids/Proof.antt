@@ -1,12 +1,14 @@
 -- `bound::bundles::put_ids` meets its contract: the count, the lengths, the ids, one behind the other.
 -- Assumes nothing.
 use native.Mathlib.Omega.{arith}
-use mathlib.Core.Path.{sym}
+use mathlib.Core.Path.{_≡_, sym, ap, _∙_}
+use Prim.Native.Nat.{_≤_}
+use lib.ListN.{length, take}
+use lib.Seq.{length-take-le}
 use Rattle.codec.specs.Layout.{alone}
 use Rattle.value.specs.Parts.{columnId}
-use Rattle.bound.specs.Made.{columnIds}
-use Rattle.bound.specs.Written.{wrote-list, ended}
-use Rattle.bound.specs.Spelt.{ids-count, ids-lengths}
+use Rattle.bound.specs.Written.{wrote-list, ended, spelt}
+use Rattle.bound.specs.Spelt.{idLengths, id-lengths-length, ids-lengths}
 use borrow.Author.Needs.{needs}
 use Rattle.bound.proofs.bundles.put_ids.Statement.{statement}
 use Rattle.bound.proofs.bundles.put_ids.Tie as tie
@@ -20,8 +22,8 @@ put-id-lengths-requires c κs = search needs
 put-id-bodies-requires : tie.Need-put-id-bodies-requires
 put-id-bodies-requires c κs =
     let lens = c .before .before .before in
-    let start = lens .before .before .before .before .before .before .before .before in
-    omega (arith, ended (lens .put-id-lengths .ensures) (ids-lengths (start .args .ids .now)))
+    let start = lens .before .before .before .before .before .before .before in
+    (start .pre .0, omega (arith, ended (lens .put-id-lengths .ensures) (id-lengths-length (start .args .n))))
 
 same-length : tie.Need-same-length
 same-length c = search needs
@@ -31,12 +33,11 @@ returns c =
     let ids = c .before .before in
     let lens = ids .before .before .before .before in
     let count = lens .before .before .before .before in
-    let start = count .before .before .before .before in
-    wrote-list (alone columnId) (columnIds (start .args .ids .now))
-    (count .put-count .ensures)
-    (lens .put-id-lengths .ensures)
-    (ids .put-id-bodies .ensures)
-    (sym (ids-count (start .args .ids .now)))
+    let start = count .before .before .before in
+    let key = take (start .args .n) (start .args .ids) in
+    let long : start .args .n ≤ length (start .args .ids) = search needs in
+    let n : start .args .n ≡ length key = sym (length-take-le (start .args .n) (start .args .ids) long) in
+    wrote-list (alone columnId) key (count .put-count .ensures) (spelt (ap idLengths n ∙ ids-lengths key) (lens .put-id-lengths .ensures)) (ids .put-id-bodies .ensures) n
 
 pub put-ids-spec : {M : Type 1} → statement M
 put-ids-spec =
