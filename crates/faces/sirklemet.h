@@ -64,7 +64,9 @@ static inline const char *sirklemet_words(uint8_t refusal)
 
 /* Binds a statement against a catalogue. 0: *written bytes of the bound statement's image are at the front of out, and the
  * bytes behind them are as they were. Else the number of the refusal: *written is 0, and out is as it was. The bytes of
- * out and *written overlap neither each other nor the inputs. */
+ * out and *written overlap neither each other nor the inputs. A catalogue of more than 65,536 bytes is read whole before it
+ * is refused, in a time that grows with the square of its tables: who takes catalogues from strangers looks at the length
+ * first. */
 uint8_t sirklemet_bind(const uint8_t *statement, size_t statement_length, const uint8_t *catalogue, size_t catalogue_length,
                        uint8_t *out, size_t out_length, size_t *written);
 
