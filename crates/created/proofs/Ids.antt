@@ -7,8 +7,8 @@ use mathlib.Core.Option.{Option, none, some, Option·some-injective, Option·non
 use Prim.Native.Nat.{ℕ, _+_, _≤_, _<_}
 use native.Mathlib.Numerals.{add-one}
 use native.Mathlib.Omega.{arith}
-use borrow.Author.Count.{below-more}
-use borrow.Author.Tests.{eq-eqb, ne-eqb}
+use lib.Dec.{eqb}
+use borrow.Author.Tests.{ne-eqb, eqb-true, eqb-false}
 use lib.ListN.{length, getD, take, drop, set, replicate, drop-of-length-le, length-drop, length-set, getD-replicate}
 use lib.Seq.{take-suc, take-suc-set, length-take-le, getD-set-same, getD-set-other}
 use Rattle.codec.specs.Layout.{listOf}
@@ -34,28 +34,24 @@ use Rattle.created.specs.Parts.{idAt, Marked, KeyMarks}
 
 -- ---- the columns that ids stand for
 
--- no column yet
-pub mark-none : (old : List Bool) (id : ColumnId) → Marked 0 old id old
-mark-none old id = record { long = refl; before = λ j h. absurd (omega (arith, h)); behind = λ j h. refl }
-
-module _ {n : ℕ} {old new : List Bool} {id : ColumnId} (m : Marked n old id new) where
+module _ (old : List Bool) (id : ColumnId) where
   -- column n has the id
-  pub mark-hit : n < length new → id .0 ≡ n + 1 → Marked (n + 1) old id (set new n true)
-  mark-hit h e = record {
-    long = length-set new n true ∙ m .long;
-    before = below-more (λ (j : ℕ). getD (set new n true) j false ≡ (getD old j false || sameId (idAt j) id)) n
-        (λ j k. let d : j ≡ n → ⊥ = λ x. omega (arith, x, k) in getD-set-other new n j true false d ∙ m .before j k)
-        (getD-set-same new n true false h ∙ sym (ap (λ (b : Bool). getD old n false || b) (eq-eqb (n + 1) (id .0) (sym e)) ∙ or-true (getD old n false)));
-    behind = λ j k. let d : j ≡ n → ⊥ = λ x. omega (arith, x, k) in let l : n ≤ j = omega (arith, k) in getD-set-other new n j true false d ∙ m .behind j l;
-  }
+  pub mark-hit : (n : ℕ) → n < length old → id .0 ≡ n + 1 → Marked old id (set old n true)
+  mark-hit n h e = record { long = length-set old n true; is = λ i l. at i (eqb (i + 1) (id .0)) refl }
+    where
+      at : (i : ℕ) (b : Bool) → eqb (i + 1) (id .0) ≡ b → getD (set old n true) i false ≡ (getD old i false || sameId (idAt i) id)
+      at i true k =
+          let s : i ≡ n = omega (arith, e, eqb-true (i + 1) (id .0) k) in
+          ap (λ (j : ℕ). getD (set old n true) j false) s ∙ getD-set-same old n true false h ∙ sym (ap (λ (b : Bool). getD old i false || b) k ∙ or-true (getD old i false))
+      at i false k =
+          let d : i ≡ n → ⊥ = λ s. eqb-false (i + 1) (id .0) k (omega (arith, e, s)) in
+          getD-set-other old n i true false d ∙ sym (ap (λ (b : Bool). getD old i false || b) k ∙ or-false (getD old i false))
 
-  -- it has another
-  pub mark-pass : (id .0 ≡ n + 1 → ⊥) → Marked (n + 1) old id new
-  mark-pass f = record {
-    long = m .long;
-    before = below-more (λ (j : ℕ). getD new j false ≡ (getD old j false || sameId (idAt j) id)) n (m .before)
-        (m .behind n (omega arith) ∙ sym (ap (λ (b : Bool). getD old n false || b) (ne-eqb (n + 1) (id .0) (λ e. f (sym e))) ∙ or-false (getD old n false)));
-    behind = λ j k. let l : n ≤ j = omega (arith, k) in m .behind j l;
+  -- no column has it
+  pub mark-none : ((i : ℕ) → i < 64 → id .0 ≡ i + 1 → ⊥) → Marked old id old
+  mark-none f = record {
+    long = refl;
+    is = λ i l. sym (ap (λ (b : Bool). getD old i false || b) (ne-eqb (i + 1) (id .0) (λ e. f i l (sym e))) ∙ or-false (getD old i false));
   }
 
 any-last : {A : Type 0} (p : A → Bool) (l : List A) (x : A) → any p (l ++ (x ∷ [])) ≡ (any p l || p x)
@@ -66,10 +62,10 @@ pub no-marks : KeyMarks (replicate 64 false) []
 no-marks i h = getD-replicate 64 i false false h
 
 -- one id more
-pub marks-more : (ids : List ColumnId) (k : ℕ) (z : ColumnId) {old new : List Bool} → k < length ids → KeyMarks old (take k ids) → Marked 64 old (getD ids k z) new
+pub marks-more : (ids : List ColumnId) (k : ℕ) (z : ColumnId) {old new : List Bool} → k < length ids → KeyMarks old (take k ids) → Marked old (getD ids k z) new
     → KeyMarks new (take (k + 1) ids)
 marks-more ids k z {old} {new} h m s i l =
-    s .before i l ∙ ap (λ (b : Bool). b || sameId (idAt i) (getD ids k z)) (m i l) ∙ sym (any-last (sameId (idAt i)) (take k ids) (getD ids k z))
+    s .is i l ∙ ap (λ (b : Bool). b || sameId (idAt i) (getD ids k z)) (m i l) ∙ sym (any-last (sameId (idAt i)) (take k ids) (getD ids k z))
     ∙ ap (any (sameId (idAt i))) (sym (take-suc ids k z h) ∙ ap (λ (n : ℕ). take n ids) (sym (add-one k)))
 
 -- ---- the id of a name

@@ -28,11 +28,10 @@ columnName c = some (c .name)
 abbrev pub idAt : ℕ → ColumnId
 idAt i = record { 0 = i + 1 }
 
--- of the first n marks, that of the column that an id stands for is set, and all others are as they were
-pub record Marked (n : ℕ) (old : List Bool) (id : ColumnId) (new : List Bool) : Type 0 where
+-- the mark of the column that an id stands for is set, and all others are as they were
+pub record Marked (old : List Bool) (id : ColumnId) (new : List Bool) : Type 0 where
   pub long : length new ≡ length old
-  pub before : (j : ℕ) → j < n → getD new j false ≡ (getD old j false || sameId (idAt j) id)
-  pub behind : (j : ℕ) → n ≤ j → getD new j false ≡ getD old j false
+  pub is : (i : ℕ) → i < 64 → getD new i false ≡ (getD old i false || sameId (idAt i) id)
 
 -- the marks of the columns that ids stand for
 abbrev pub KeyMarks : List Bool → List ColumnId → Type 0

@@ -115,13 +115,14 @@ fn put_column(out: &mut [u8], at: usize, d: &[u8], i: usize, in_key: bool) -> us
 // Marks the column that an id stands for: column i has the id i + 1.
 fn mark_id(marks: &mut [bool; 64], id: ColumnId)
     requires { ⌜ length (now marks) ≡ 64 ⌝ }
-    ensures { λ r. ⌜ Marked 64 (now (marks .entry)) id (now (marks .exit)) ⌝ }
+    ensures { λ r. ⌜ Marked (now (marks .entry)) id (now (marks .exit)) ⌝ }
 {
     let wanted = id.0;
     let mut i = 0;
     while i < 64 {
         if wanted == i as u64 + 1 {
             marks[i] = true;
+            return;
         }
         i += 1;
     }

@@ -1,33 +1,40 @@
--- `created::mark_id` meets its contract. The invariant: the columns before the one at hand are marked.
+-- `created::mark_id` meets its contract. The invariant: no column before the one at hand has the id, and no mark was set.
 -- Assumes nothing.
 use borrow.Author.Needs.{needs}
-use mathlib.Core.Path.{_≡_, sym, subst}
-use mathlib.Core.Bool.{Bool}
+use borrow.Author.Count.{below-more}
+use mathlib.Core.Path.{_≡_, refl, subst}
 use mathlib.Core.List.{List}
-use mathlib.Core.Logic.{⊎-elim}
+use mathlib.Core.Bool.{Bool, true}
 use Prim.Native.Nat.{ℕ, _+_, _-_, _≤_, _<_}
 use native.Mathlib.Omega.{arith}
-use lib.ListN.{length}
 use denote.Ref.{now}
+use lib.ListN.{length, set}
 use Rattle.created.specs.Parts.{Marked}
-use Rattle.created.proofs.Ids.{mark-none, mark-hit, mark-pass}
+use Rattle.created.proofs.Ids.{mark-hit, mark-none}
 use Rattle.created.proofs.mark_id.Statement.{statement}
 use Rattle.created.proofs.mark_id.Tie as tie
 
 abbrev Inv-loop : tie.InvT-loop
-Inv-loop marks₀ wanted i₀ marks i = (i ≤ 64) × Marked i marks₀ (record { 0 = wanted }) marks
+Inv-loop marks₀ wanted i₀ marks i = (i ≤ 64) × (marks₀ ≡ marks) × ((j : ℕ) → j < i → wanted ≡ j + 1 → ⊥)
 
 abbrev μ-loop : tie.MeasureT-loop
 μ-loop marks₀ wanted i₀ marks i = 64 - i
 
 loop-holds : tie.Need-loop-holds Inv-loop μ-loop
-loop-holds c = (omega arith, mark-none _ _)
+loop-holds c = (omega arith, refl, λ j h. absurd (omega (arith, h)))
 
 add-if1 : tie.Need-add-if1 Inv-loop μ-loop
 add-if1 c = search needs
 
 element-write-marks : tie.Need-element-write-marks Inv-loop μ-loop
 element-write-marks c = search needs
+
+returns : tie.Need-returns Inv-loop μ-loop
+returns c =
+    let l = c .before .before .loop in
+    let a = c .before .before .before .args in
+    let few : l .i < length (now (a .marks)) = omega (arith, c .before .before .before .pre, c .before .loop-test .taken) in
+    subst (λ (m : List Bool). Marked (now (a .marks)) (a .id) (set m (l .i) true)) (l .inv .1) (mark-hit (now (a .marks)) (a .id) (l .i) few (c .if1 .taken))
 
 add-i : tie.Need-add-i Inv-loop μ-loop
 add-i c = search needs
@@ -38,17 +45,13 @@ loop-less c = search needs
 loop-again : tie.Need-loop-again Inv-loop μ-loop
 loop-again c =
     let l = c .before .before .loop in
-    let few : l .i < length (l .marks) = omega (arith, l .inv .1 .long, c .before .before .before .pre, c .before .loop-test .taken) in
-    let to : List Bool → Type 0 = λ m. Marked (l .i + 1) (now (c .before .before .before .args .marks)) (c .before .before .before .args .id) m in (
-      omega (arith, c .before .loop-test .taken),
-      ⊎-elim (λ w. subst to (sym (w .1)) (mark-hit (l .inv .1) few (w .0 .taken))) (λ w. subst to (sym (w .1)) (mark-pass (l .inv .1) (w .0 .left))) (c .if1 .came),
-    )
+    (omega (arith, c .before .loop-test .taken), l .inv .1, below-more _ (l .i) (l .inv .2) (c .if1 .left))
 
-returns : tie.Need-returns Inv-loop μ-loop
-returns c =
+returns-2 : tie.Need-returns-2 Inv-loop μ-loop
+returns-2 c =
     let l = c .before .loop in
-    let e : l .i ≡ 64 = omega (arith, l .inv .0, c .loop-test .left) in
-    subst (λ (n : ℕ). Marked n (now (c .before .before .args .marks)) (c .before .before .args .id) (l .marks)) e (l .inv .1)
+    let a = c .before .before .args in
+    subst (Marked (now (a .marks)) (a .id)) (l .inv .1) (mark-none (now (a .marks)) (a .id) (λ j h. l .inv .2 j (omega (arith, h, c .loop-test .left))))
 
 pub mark-id-spec : {M : Type 1} → statement M
 mark-id-spec =
@@ -59,7 +62,8 @@ mark-id-spec =
     loop-holds
     add-if1
     element-write-marks
+    returns
     add-i
     loop-less
     loop-again
-    returns)
+    returns-2)
