@@ -9,9 +9,9 @@ use borrow.Author.Tests.{lt-ltb, le-ltb}
 use lib.Dec.{ltb}
 use lib.ListN.{length}
 use Rattle.rules.specs.Heard.{Outcome, refuses}
-use Rattle.reply.specs.declared.Reply.{Reply}
-use Rattle.receiving.specs.Entry.{bindBytes}
-use Rattle.reply.specs.Leaves.{Hears, Leaves, reply, hears-refusal, hears-same}
+use Rattle.op_reply.specs.declared.Reply.{Reply}
+use Rattle.op_received.specs.Entry.{bindBytes}
+use Rattle.op_reply.specs.Leaves.{Hears, Leaves, reply, hears-refusal, hears-same}
 
 abbrev pub most : ℕ
 most = 65536

@@ -1,11 +1,11 @@
 // Binds one statement: the file `catalogue` and a statement image on standard input, and one line out, `bound N` or `refused R`.
 use libc::STDIN_FILENO;
 use libc::STDOUT_FILENO;
-use reply::Reply;
-use reply::refused;
-use sirklemet::bind;
+use op_bind::bind;
+use op_reply::Reply;
+use op_reply::refused;
 ghost use Rattle.io.specs.Counts.{Counts};
-ghost use Rattle.reply.specs.Leaves.{Hears};
+ghost use Rattle.op_reply.specs.Leaves.{Hears};
 ghost use Rattle.bindcheck.specs.Checked.{checkBytes};
 
 // The longest input that is judged, and the room for the answer (`io::large_buffer`).

@@ -1,13 +1,13 @@
 // Replays the two records: `data/README` says how each was made and how it is laid out. What is counted of a record is `replaying`'s;
 // here it is read and printed.
-use recorded::Of;
-use recorded::Replayed;
-use recorded::Tally;
-use replaying::replayed;
-use replaying::said::read;
-use replaying::said::say;
-use replaying::said::say_damage;
-use replaying::said::say_number;
+use replay_record::Of;
+use replay_record::Replayed;
+use replay_record::Tally;
+use replay_walk::replayed;
+use replay_walk::said::read;
+use replay_walk::said::say;
+use replay_walk::said::say_damage;
+use replay_walk::said::say_number;
 
 fn say_binds(t: Tally) {
     say_number(t.answered);

@@ -11,9 +11,9 @@ use lib.Dec.{ltb}
 use lib.ListN.{length, take, drop, length-append}
 use lib.Seq.{take-append-seam, length-take-le}
 use Rattle.rules.specs.Heard.{Outcome, refuses, answers}
-use Rattle.reply.specs.declared.Reply.{Reply}
-use Rattle.receiving.specs.Entry.{runBytes}
-use Rattle.reply.specs.Leaves.{refusal, Leaves, reply, leaves-as-it-was}
+use Rattle.op_reply.specs.declared.Reply.{Reply}
+use Rattle.op_received.specs.Entry.{runBytes}
+use Rattle.op_reply.specs.Leaves.{refusal, Leaves, reply, leaves-as-it-was}
 use Rattle.runrow.specs.Zero.{Numbered, test-numbered, run-numbered}
 
 abbrev pub most : ℕ

@@ -34,8 +34,8 @@ use Rattle.rules.specs.Limits.{statementWithin, catalogueWithin, namesBeyondAsc
 use Rattle.rules.specs.Rows.{Row, rowObeys}
 use Rattle.rules.specs.Statements.{Statement}
 use Rattle.rules.specs.Tables.{TableSchema, Catalogue}
-use Rattle.row.specs.Layout as row
-use Rattle.receiving.specs.Entry.{readStatement, readCatalogue, rowSize, runBytes}
+use Rattle.image_row.specs.Layout as row
+use Rattle.op_received.specs.Entry.{readStatement, readCatalogue, rowSize, runBytes}
 
 -- a refusal has a number that is not 0
 abbrev pub Numbered : {A : Type 0} → Outcome A → Type 0

@@ -2,14 +2,14 @@
 // row's image of N bytes is in the file `new-row`; or `refused R`, and no file is touched; or `not written`.
 use libc::STDIN_FILENO;
 use libc::STDOUT_FILENO;
-use reply::Reply;
-use reply::refused;
-use runner::run;
+use op_reply::Reply;
+use op_reply::refused;
+use op_run::run;
 ghost use mathlib.Core.Path.{_≡_};
 ghost use lib.ListN.{length};
 ghost use Rattle.io.specs.Counts.{Counts};
 ghost use Rattle.rules.specs.Heard.{refuses, answers};
-ghost use Rattle.reply.specs.Leaves.{Leaves};
+ghost use Rattle.op_reply.specs.Leaves.{Leaves};
 ghost use Rattle.runrow.specs.Ran.{most, ranBytes};
 
 // The longest input that is judged, and the room for the answer (`io::large_buffer`).

@@ -1,4 +1,4 @@
-//! The Rust decoder as C calls it, for tools/fuzz. The answers are those of crates/faces/sirklemet.h.
+//! The Rust decoder as C calls it, for tools/fuzz. The answers are those of crates/sirklemet/sirklemet.h.
 
 use std::sync::OnceLock;
 

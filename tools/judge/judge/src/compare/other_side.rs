@@ -5,7 +5,7 @@
 //! SIRKLEMET_STATICLIB=target/staticlib/libfaces.a tools/compare --seed 1 --count 100000
 //! ```
 //!
-//! The library exports `sirklemet_bind` as crates/faces/sirklemet.h declares it. (Plain `bind` is taken: it is the socket
+//! The library exports `sirklemet_bind` as crates/sirklemet/sirklemet.h declares it. (Plain `bind` is taken: it is the socket
 //! call of the C library, which the linker would find instead.)
 
 /// What a binder answers: 0 and the length of the bound image, which it wrote to the front of the output, or the number

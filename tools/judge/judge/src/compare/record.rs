@@ -12,7 +12,7 @@ use crate::judge::{Answer, Verdict};
 /// No image of a recorded case is longer, so that a program replays it over a small buffer.
 const LONGEST: usize = 1_500;
 
-/// The most room that the program lends for an answer (`most` of crates/recorded/specs/Layout.antt).
+/// The most room that the program lends for an answer (`most` of crates/replay_record/specs/Layout.antt).
 const MOST_ROOM: usize = 4_500;
 
 /// The record's bytes, and for people what it holds.

@@ -1,4 +1,4 @@
-//! The operations of the static library, as crates/faces/sirklemet.h declares them. The crate `sirklemet` links it, but
+//! The operations of the static library, as crates/sirklemet/sirklemet.h declares them. The crate `sirklemet` links it, but
 //! says nothing of the length that comes with a refusal.
 
 use judge::compare::{other_side as binders, untouched};

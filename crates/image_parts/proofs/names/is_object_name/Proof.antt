@@ -1,0 +1,42 @@
+-- `image_parts::names::is_object_name` meets its contract.
+-- Assumes nothing.
+use mathlib.Core.Path.{refl}
+use native.Mathlib.Omega.{arith}
+use Rattle.bytes_bundle.specs.Heads.{no-code, at-code, bare-code, bad-code}
+use Rattle.image_parts.specs.Shapes.{object-name-chosen}
+use borrow.Author.Needs.{needs}
+use Rattle.image_parts.proofs.names.is_object_name.Statement.{statement}
+use Rattle.image_parts.proofs.names.is_object_name.Tie as tie
+
+returns : tie.Need-returns
+returns c = no-code (object-name-chosen _) (c .if1 .taken)
+
+shared-slice-read-match : tie.Need-shared-slice-read-match
+shared-slice-read-match c = search needs
+
+behind-requires : tie.Need-behind-requires
+behind-requires c κs = search needs
+
+is-name-requires : tie.Need-is-name-requires
+is-name-requires c κs = search needs
+
+returns-2 : tie.Need-returns-2
+returns-2 c = bare-code (object-name-chosen _) 0 (search needs) (search needs) refl
+
+returns-3 : tie.Need-returns-3
+returns-3 c = at-code (object-name-chosen _) 1 (search needs) (search needs) (cc)
+
+returns-4 : tie.Need-returns-4
+returns-4 c = bad-code (object-name-chosen _) (omega arith)
+
+pub is-object-name-spec : {M : Type 1} → statement M
+is-object-name-spec =
+    tie.close
+    (tie.spec
+    returns
+    shared-slice-read-match
+    behind-requires
+    is-name-requires
+    returns-2
+    returns-3
+    returns-4)
