@@ -1,4 +1,4 @@
--- The laws of the layout: what codec's reader of nodes gives, by positions. Only this file and the proofs of src/layout.rt look into `nodeAt`.
+-- The laws of the layout: what bytes_format's reader of nodes gives, by positions. Only this file and the proofs of src/layout.rt look into `nodeAt`.
 -- Assumes nothing.
 use mathlib.Core.Path.{_≡_, _∙_, refl, sym, ap, subst}
 use mathlib.Core.Bool.{true, false}
@@ -32,7 +32,7 @@ pub record Laid (s : List ℕ) : Type 0 where
   -- the contents fill the rest
   pub filled : 5 * nodeCount s + 2 + startAt s (nodeCount s) ≡ length s
 
--- the nodes from i on, as codec has them: an image of the label, and the span
+-- the nodes from i on, as bytes_format has them: an image of the label, and the span
 abbrev pub images : (ℕ → Node) → ℕ → ℕ → List (List ℕ × ℕ)
 images v i zero = []
 images v i (suc n) = ((v i) .kind ∷ (v i) .text, (v i) .span) ∷ images v (suc i) n

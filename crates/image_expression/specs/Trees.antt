@@ -1,4 +1,4 @@
--- Trees and the nodes that they stand at: `nodesOf e` (of codec) lies from node a on exactly if e's root is at its last node, and then each
+-- Trees and the nodes that they stand at: `nodesOf e` (of bytes_format) lies from node a on exactly if e's root is at its last node, and then each
 -- node of it is some tree's root.
 -- Nothing here knows where a node's bytes lie.
 -- Assumes nothing.

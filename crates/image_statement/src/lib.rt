@@ -1,4 +1,4 @@
-// The statement's image: whether bytes are one, and its parts. `specs/Layout.antt` of `statement` has the layout and the two round trips.
+// The statement's image: whether bytes are one, and its parts. `specs/Layout.antt` of `image_parts` has the layout and the two round trips.
 use image_parts::heads::are_marks;
 use image_parts::heads::behind;
 ghost use mathlib.Core.Path.{_≡_};

@@ -1,5 +1,5 @@
 -- What the public operations answer, for every string of bytes. The images are read by their layouts, judged by the rules, and the answer is
--- written by its layout; `reply` has what the output then holds.
+-- written by its layout; `op_reply` has what the output then holds.
 -- Assumes nothing: these are definitions.
 use mathlib.Core.Option.{Option, Option·map}
 use mathlib.Core.List.{List}

@@ -1,4 +1,4 @@
--- What `runBytes` answers, case by case, as the code finds out: what binding refuses but 9, then 12; the rest is told of the row (`onrow`).
+-- What `runBytes` answers, case by case, as the code finds out: what binding refuses but 9, then 12; the rest is told of the row (`run_update`).
 -- Assumes nothing.
 use mathlib.Core.Path.{_≡_, refl, sym, ap, _∙_}
 use mathlib.Core.Bool.{false, true≢false}

@@ -1,4 +1,4 @@
-// The public operation `run`: an UPDATE run on one row. `receiving` has what it answers on bytes, `reply` what its output then holds.
+// The public operation `run`: an UPDATE run on one row. `op_received` has what it answers on bytes, `op_reply` what its output then holds.
 use bind_statement::analyze;
 use bind_table::Measured;
 use bind_table::Resolved;

@@ -1,4 +1,4 @@
-// Replays the two records: `data/README` says how each was made and how it is laid out. What is counted of a record is `replaying`'s;
+// Replays the two records: `data/README` says how each was made and how it is laid out. What is counted of a record is `replay_walk`'s;
 // here it is read and printed.
 use replay_record::Of;
 use replay_record::Replayed;

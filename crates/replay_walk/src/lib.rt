@@ -1,5 +1,5 @@
 // A record replayed: each case is bound or run here, and the cases whose answer is not the expected one are counted.
-// `recorded` says how a record is laid out.
+// `replay_record` says how a record is laid out.
 pub mod said;
 
 use op_bind::bind;

@@ -1,5 +1,5 @@
 // The bound statement's image, written where the statement is bound and its image has room: by the raw text, and then by the kind, as
-// `analyzer` measures it.
+// `bind_statement` measures it.
 use image_bound::fields::put_byte;
 use write_create::write_create_table;
 use write_delete::write_delete;

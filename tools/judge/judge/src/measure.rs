@@ -1,5 +1,6 @@
 //! How long calls take, and the cases that are measured. A measurement is no test: it says nothing about answers.
 
+use std::process::Command;
 use std::time::{Duration, Instant};
 
 use images::catalogue::{Catalogue, Table};
@@ -110,4 +111,20 @@ fn batch(calls: u64, call: &mut impl FnMut()) -> Duration {
     let start = Instant::now();
     (0..calls).for_each(|_| call());
     start.elapsed()
+}
+
+/// The instructions of one call of the function of this symbol and of what it calls, counted by valgrind, which runs this
+/// program again with these words: behind them it makes the call once.
+pub fn instructions(symbol: &str, words: &[&str]) -> Result<f64, String> {
+    let in_words = |error: std::io::Error| format!("valgrind: {error}");
+    let output = Command::new("valgrind")
+        .args(["--tool=callgrind", "--callgrind-out-file=/dev/null"])
+        .arg(format!("--toggle-collect={symbol}"))
+        .arg(std::env::current_exe().map_err(in_words)?)
+        .args(words)
+        .output()
+        .map_err(in_words)?;
+    let said = String::from_utf8_lossy(&output.stderr).into_owned();
+    let collected = said.lines().find_map(|line| line.split("Collected :").nth(1));
+    collected.and_then(|number| number.trim().parse().ok()).ok_or(format!("valgrind counted nothing:\n{said}"))
 }

@@ -8,7 +8,7 @@ use judge::analyzer::analyze;
 use judge::decode::{self, Choice};
 use judge::generate::Case;
 use judge::judge::judge;
-use judge::measure::{Measured, cases, growing, nanoseconds};
+use judge::measure::{Measured, cases, growing, instructions, nanoseconds};
 
 const HELP: &str = "\
 bench           prints nanoseconds per call for a few cases, the fastest of many batches, in some 20 seconds:
@@ -18,19 +18,24 @@ bench           prints nanoseconds per call for a few cases, the fastest of many
                   bind      the static library's sirklemet_bind, where SIRKLEMET_STATICLIB names one
                 and their ratios. It is no test
 bench growth    the same for statements that grow
+bench instructions
+                the instructions of one call of the static library's sirklemet_bind for the cases of `bench`, counted by
+                valgrind: these do not depend on what else runs
 ";
 
 fn main() -> ExitCode {
     let words: Vec<String> = std::env::args().skip(1).collect();
-    let measured = match words.iter().map(String::as_str).collect::<Vec<_>>().as_slice() {
-        [] => cases(),
-        ["growth"] => growing(),
+    let ended = match words.iter().map(String::as_str).collect::<Vec<_>>().as_slice() {
+        [] => cases().and_then(|measured| run(&measured)),
+        ["growth"] => growing().and_then(|measured| run(&measured)),
+        ["instructions"] => cases().and_then(|measured| count(&measured)),
+        ["--once", name] => cases().and_then(|measured| once(&measured, name)),
         _ => {
             print!("{HELP}");
             return ExitCode::SUCCESS;
         }
     };
-    match measured.and_then(|measured| run(&measured)) {
+    match ended {
         Ok(()) => ExitCode::SUCCESS,
         Err(message) => {
             eprintln!("bench: {message}");
@@ -53,6 +58,23 @@ fn run(cases: &[Measured]) -> Result<(), String> {
         println!("{}", line(measured)?);
     }
     Ok(())
+}
+
+fn count(cases: &[Measured]) -> Result<(), String> {
+    if !cfg!(feature = "linked") {
+        return Err("no static library: SIRKLEMET_STATICLIB names one".into());
+    }
+    println!("instructions per call of sirklemet_bind");
+    for measured in cases {
+        println!("{:<32}{:>12.0}", measured.name, instructions("sirklemet_bind", &["--once", measured.name])?);
+    }
+    Ok(())
+}
+
+/// For the profiler: one call on the case of this name.
+fn once(cases: &[Measured], name: &str) -> Result<(), String> {
+    let measured = cases.iter().find(|measured| measured.name == name).ok_or("no such case")?;
+    bind_once(&measured.case)
 }
 
 fn heading() -> String {
@@ -102,16 +124,30 @@ fn linked_bind(_: &Case) -> Result<Option<f64>, String> {
     Ok(None)
 }
 
+#[cfg(not(feature = "linked"))]
+fn bind_once(_: &Case) -> Result<(), String> {
+    Ok(())
+}
+
+#[cfg(feature = "linked")]
+fn bind_once(case: &Case) -> Result<(), String> {
+    use judge::compare::other_side::OtherSide;
+    use judge::compare::other_side::linked::LinkedBinder;
+
+    let reply = LinkedBinder.bind(&case.statement, &case.catalogue, &mut vec![0; case.room]);
+    if reply.number != 0 {
+        return Err(format!("the static library refuses it with {}, and only what binds is measured", reply.number));
+    }
+    Ok(())
+}
+
 #[cfg(feature = "linked")]
 fn linked_bind(case: &Case) -> Result<Option<f64>, String> {
     use judge::compare::other_side::OtherSide;
     use judge::compare::other_side::linked::LinkedBinder;
 
+    bind_once(case)?;
     let mut out = vec![0; case.room];
-    let reply = LinkedBinder.bind(&case.statement, &case.catalogue, &mut out);
-    if reply.number != 0 {
-        return Err(format!("the static library refuses it with {}, and only what binds is measured", reply.number));
-    }
     let mut call = || LinkedBinder.bind(black_box(&case.statement), black_box(&case.catalogue), black_box(&mut out));
     Ok(Some(nanoseconds(|| {
         black_box(call());

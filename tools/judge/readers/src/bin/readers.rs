@@ -1,8 +1,8 @@
 //! The command `readers`: how long the proved readers take.
 
-use std::process::{Command, ExitCode};
+use std::process::ExitCode;
 
-use judge::measure::nanoseconds;
+use judge::measure::{self, nanoseconds};
 use readers::measure::{ALL, Case, Measured, PASS, cases};
 
 const HELP: &str = "\
@@ -85,15 +85,7 @@ fn instructions(case: &Case, function: &Measured) -> Result<f64, String> {
     let in_words = |error: std::io::Error| error.to_string();
     let file = std::env::temp_dir().join(format!("readers-{}", std::process::id()));
     std::fs::write(&file, &case.bytes).map_err(in_words)?;
-    let output = Command::new("valgrind")
-        .args(["--tool=callgrind", "--callgrind-out-file=/dev/null"])
-        .arg(format!("--toggle-collect={}", function.symbol))
-        .arg(std::env::current_exe().map_err(in_words)?)
-        .args(["--once", function.symbol])
-        .arg(&file)
-        .output();
+    let counted = measure::instructions(function.symbol, &["--once", function.symbol, &file.to_string_lossy()]);
     std::fs::remove_file(&file).map_err(in_words)?;
-    let said = String::from_utf8_lossy(&output.map_err(in_words)?.stderr).into_owned();
-    let collected = said.lines().find_map(|line| line.split("Collected :").nth(1));
-    collected.and_then(|number| number.trim().parse().ok()).ok_or(format!("valgrind counted nothing:\n{said}"))
+    counted
 }
