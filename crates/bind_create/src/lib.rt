@@ -1,4 +1,6 @@
 // CREATE TABLE over a catalogue: its columns in their order, then its constraints, then the names of its key.
+#![tactic(auto)]
+
 ghost use Rattle.std.specs.Prelude.{◌≡◌, cond, ◌&&◌, List, [], map, ◌≤◌, length};
 ghost use Rattle.std.proofs.Math.Option.{Option, some};
 ghost use Rattle.bytes_format.specs.Layout.{list_of};
@@ -29,20 +31,20 @@ use image_parts::names::name_text;
 use rules::Class;
 
 // Where the key stands: at a column, or in a constraint.
-#[derive(Drop)]
+#[derive(Clone, Copy)]
 pub enum Key {
     Nowhere,
     Column(usize),
     Constrained(usize),
 }
 
-#[derive(Drop)]
+#[derive(Clone, Copy)]
 pub enum Keyed {
     Is(Key),
     Refused(Class),
 }
 
-#[derive(Drop)]
+#[derive(Clone, Copy)]
 pub enum Place {
     Nowhere,
     At(usize),

@@ -1,4 +1,6 @@
 // DELETE over a catalogue: its table, then its condition.
+#![tactic(auto)]
+
 ghost use Rattle.std.specs.Prelude.{◌≡◌};
 ghost use Rattle.std.proofs.Math.Option.{Option};
 ghost use Rattle.bytes_format.specs.Layout.{list_of};

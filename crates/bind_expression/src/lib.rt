@@ -1,5 +1,7 @@
 // Marks the nodes of an expression over a table, and measures the bound expression on the way. A node's operands are marked before the node,
 // the left one first; the node's number falls on the way round, and the calls are as deep as the expression.
+#![tactic(auto)]
+
 mod leaves;
 mod nodes;
 
@@ -21,13 +23,13 @@ use nodes::{null_test, one_operand, signs_number, two_operands};
 
 // What an expression is bound to: the mark of its root, and how many bytes its nodes and what its leaves hold take in the bound image. One
 // number, since an answer is copied at each return and only the sum is asked for.
-#[derive(Drop)]
+#[derive(Clone, Copy)]
 pub struct Measured {
     pub mark: rules::Mark,
     pub size: usize,
 }
 
-#[derive(Drop)]
+#[derive(Clone, Copy)]
 pub enum Marked {
     Is(Measured),
     Refused(rules::Refusal),
@@ -105,7 +107,7 @@ fn mark_binary(t: &[u8], e: &[u8], i: usize, k: u8) -> Marked
 
 // ---- a whole expression
 
-#[derive(Drop)]
+#[derive(Clone, Copy)]
 pub enum Sized {
     // the mark, and the length of the bound expression's image
     Is(rules::Mark, usize),

@@ -1,4 +1,6 @@
 // Whether a value fits the column that it is given to, and whether a condition is one.
+#![tactic(auto)]
+
 ghost use Rattle.std.specs.Prelude.{◌≡◌};
 ghost use Rattle.rules.specs.Bound.{Value, BoundColumnRef};
 ghost use Rattle.rules.specs.Lookup.{expression_type, column_mark};
@@ -9,14 +11,14 @@ ghost use Rattle.bind_fits.specs.Told.{told_fit, kind_of, null_fit};
 use bind_operators::same_type;
 use rules::{Class, DataType, ExpressionType, Mark};
 
-#[derive(Drop)]
+#[derive(Clone, Copy)]
 pub enum Fit {
     Fine,
     Flaw(Class),
 }
 
 // What a value of a VALUES list is, as far as its column asks.
-#[derive(Drop)]
+#[derive(Clone, Copy)]
 pub enum ValueKind {
     Int,
     Text,

@@ -1,4 +1,6 @@
 // INSERT over a catalogue, measured: how long its bound image is, or the refusal.
+#![tactic(auto)]
+
 ghost use Rattle.std.specs.Prelude.{◌≡◌, ◌≤◌};
 ghost use Rattle.bytes_format.specs.Layout.{list_of};
 ghost use Rattle.bytes_bundle.specs.Held.{Is, Holds};

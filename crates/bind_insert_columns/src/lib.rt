@@ -1,4 +1,6 @@
 // The target columns of an INSERT, and the columns that it must not leave out.
+#![tactic(auto)]
+
 ghost use Rattle.std.specs.Prelude.{◌≡◌, Bool, List, ◌≤◌, length};
 ghost use Rattle.bytes_format.specs.Layout.{list_of};
 ghost use Rattle.bytes_bundle.specs.Held.{Is, Holds};
@@ -27,7 +29,7 @@ use rules::{Class, DataType};
 use text_names::is_called;
 
 // What makes a column one that an INSERT must not leave out.
-#[derive(Drop)]
+#[derive(Clone, Copy)]
 pub enum Need {
     Key,
     NotNull,

@@ -1,4 +1,6 @@
 // The rows of an INSERT, held against its target columns.
+#![tactic(auto)]
+
 ghost use Rattle.std.specs.Prelude.{◌≡◌, ◌≤◌, length};
 ghost use Rattle.bytes_format.specs.Layout.{list_of};
 ghost use Rattle.bytes_bundle.specs.Held.{Is, Holds};

@@ -1,4 +1,6 @@
 // A value of a VALUES list: a literal, or a sign directly on a number.
+#![tactic(auto)]
+
 ghost use Rattle.std.specs.Prelude.{◌≡◌, ◌≤◌, ◌<◌, length};
 ghost use Rattle.bytes_bundle.specs.Held.{Is, Holds};
 ghost use Rattle.image_expression.specs.Expression.{expression};
@@ -14,7 +16,7 @@ use rules::{Class, Refusal};
 use text_numbers::{Literal, integer_literal};
 
 // A text lies in the expression's image: `text_of` lends it.
-#[derive(Drop)]
+#[derive(Clone, Copy)]
 pub enum Scalar {
     Int(i64),
     Text,

@@ -1,4 +1,6 @@
 // What an operator makes of its operands' marks: the rules of the operators as one table, and those of a single operand.
+#![tactic(auto)]
+
 ghost use Rattle.std.specs.Prelude.{◌≡◌, ◌<◌, false};
 ghost use Rattle.rules.specs.Statements as statements;
 ghost use Rattle.rules.specs.declared.ExpressionType.TheVariants as type;
@@ -10,14 +12,14 @@ ghost use Rattle.bind_operators.specs.Codes.{code_of, decoded};
 use rules::{BoundBinaryOperator, BoundUnaryOperator, Class, ExpressionType, Mark};
 
 // What an operator's rule says of two types: the result's type, or which class of error it is.
-#[derive(Drop)]
+#[derive(Clone, Copy)]
 pub enum Entry {
     Type(ExpressionType),
     Flaw(Class),
 }
 
 // What the rule at a node says of its operands' marks: the node's mark, or which class of error it is.
-#[derive(Drop)]
+#[derive(Clone, Copy)]
 pub enum Ruling {
     Fine(Mark),
     Flaw(Class),

@@ -1,4 +1,6 @@
 // What the options of a column have said so far. Each option is taken by a method, which hands back the new state or a refusal.
+#![tactic(auto)]
+
 ghost use Rattle.std.specs.Prelude.{◌≡◌, Bool, not, ◌&&◌};
 ghost use Rattle.std.proofs.Math.Option.{some};
 ghost use Rattle.rules.specs.Statements.{option_null, option_not_null, option_key};
@@ -7,20 +9,20 @@ ghost use Rattle.bind_options.specs.Steps.{nullability_of, state_of, step_of};
 
 use rules::Class;
 
-#[derive(Drop)]
+#[derive(Clone, Copy)]
 pub enum Nullability {
     Unsaid,
     Null,
     NotNull,
 }
 
-#[derive(Drop)]
+#[derive(Clone, Copy)]
 pub struct OptionState {
     pub nullability: Nullability,
     pub key: bool,
 }
 
-#[derive(Drop)]
+#[derive(Clone, Copy)]
 pub enum Step {
     Next(OptionState),
     Refused(Class),

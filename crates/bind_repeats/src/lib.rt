@@ -1,5 +1,7 @@
 // The first entry of a list that repeats an earlier one, by the names that entries have: columns of an INSERT and of a CREATE TABLE,
 // names of a key, targets of an UPDATE.
+#![tactic(auto)]
+
 ghost use Rattle.std.specs.Prelude.{◌≡◌};
 ghost use Rattle.std.proofs.Math.Option.{none, some};
 ghost use Rattle.bytes_bundle.specs.Held.{Holds, Is};
@@ -11,14 +13,14 @@ ghost use Rattle.bind_repeats.specs.Entries.{form, alike_names, object_in, targe
 use image_parts::names::{name_is_quoted, name_text, object_name_code, only_name};
 
 // What an entry is: a name, a column's definition or an assignment. An assignment to a tuple or to a qualified name has no name.
-#[derive(Drop)]
+#[derive(Clone, Copy)]
 pub enum Of {
     Names,
     Columns,
     Targets,
 }
 
-#[derive(Drop)]
+#[derive(Clone, Copy)]
 pub enum Repeat {
     Nowhere,
     At(usize),

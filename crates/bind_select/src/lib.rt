@@ -1,4 +1,6 @@
 // SELECT over a catalogue: its table, its items in their order, then its condition.
+#![tactic(auto)]
+
 ghost use Rattle.std.specs.Prelude.{◌≡◌, List, ◌+◌, ◌≤◌};
 ghost use Rattle.std.proofs.Math.Option.{Option};
 ghost use Rattle.bytes_format.specs.Layout.{list_of};

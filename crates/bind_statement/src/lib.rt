@@ -1,4 +1,6 @@
 // The analysis of a statement over a catalogue, by its raw text and then by its kind: how long the bound statement is, or the refusal.
+#![tactic(auto)]
+
 mod transactions;
 
 ghost use Rattle.std.specs.Prelude.{◌≡◌};

@@ -1,4 +1,6 @@
 // What the analysis of the statements shares: what it answers, and the table that a statement names.
+#![tactic(auto)]
+
 ghost use Rattle.std.specs.Prelude.{◌≡◌};
 ghost use Rattle.bytes_format.specs.Layout.{list_of, text};
 ghost use Rattle.bytes_bundle.specs.Held.{Is, Holds};
@@ -24,14 +26,14 @@ use image_parts::table::{
 use rules::{Class, Refusal};
 
 // The length of a part of the bound statement's image, or the refusal. The image is measured before a byte of it is written.
-#[derive(Drop)]
+#[derive(Clone, Copy)]
 pub enum Measured {
     Is(usize),
     Refused(Refusal),
 }
 
 // Where a table begins and ends in the catalogue's image, or the refusal.
-#[derive(Drop)]
+#[derive(Clone, Copy)]
 pub enum Resolved {
     At(usize, usize),
     Refused(Refusal),

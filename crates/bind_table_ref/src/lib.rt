@@ -1,4 +1,6 @@
 // The table of a bound statement, made of its image in the catalogue.
+#![tactic(auto)]
+
 ghost use Rattle.std.specs.Prelude.{◌≡◌, ◌≤◌, length};
 ghost use Rattle.bytes_wire.specs.Sets.{Wrote};
 ghost use Rattle.bytes_bundle.specs.Held.{Is, Holds};

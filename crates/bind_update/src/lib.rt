@@ -1,4 +1,6 @@
 // UPDATE over a catalogue: its assignments in their order, then its condition.
+#![tactic(auto)]
+
 ghost use Rattle.std.specs.Prelude.{◌≡◌, List, []};
 ghost use Rattle.bytes_format.specs.Layout.{list_of};
 ghost use Rattle.bytes_bundle.specs.Held.{Is, Holds};
@@ -40,7 +42,7 @@ use image_update::{
 use rules::{Class, DataType};
 
 // The column that a target stands for.
-#[derive(Drop)]
+#[derive(Clone, Copy)]
 pub enum Targeted {
     Is(Column),
     Refused(Class),

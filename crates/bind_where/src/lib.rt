@@ -1,4 +1,6 @@
 // The WHERE of a SELECT, an UPDATE or a DELETE.
+#![tactic(auto)]
+
 ghost use Rattle.std.specs.Prelude.{◌≡◌};
 ghost use Rattle.bytes_bundle.specs.Held.{Is, Holds};
 ghost use Rattle.image_bound.specs.Expression.{bound_expression};

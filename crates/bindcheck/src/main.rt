@@ -1,4 +1,6 @@
 // Binds one statement: the file `catalogue` and a statement image on standard input, and one line out, `bound N` or `refused R`.
+#![tactic(auto)]
+
 ghost use Rattle.io.specs.Counts.{IsPrefixLen};
 ghost use Rattle.op_reply.specs.Leaves.{Hears};
 ghost use Rattle.bindcheck.specs.Checked.{check_bytes};

@@ -1,5 +1,7 @@
 // The one reader of the one container: how many parts, the length of each, the parts (docs/IMAGES.md, "A bundle"). Counts have w bytes.
 // A loop over a list carries the number of a part and the byte where it begins, and lends `&s[at..end]` to a function that judges one part.
+#![tactic(auto)]
+
 ghost use Rattle.std.specs.Prelude.{◌≡◌, [], ◌≤◌, ◌<◌, length, get_or};
 ghost use Rattle.bytes_format.specs.Layout.{pieces};
 ghost use Rattle.bytes_bundle.specs.Bundle.{is_there, parts_of, IsBundle, is_record, PartAt, Stepped};

@@ -131,7 +131,7 @@ via_field c f g fg gf = record { width = c.width; form = via c.form f g fg gf; w
 -- a signed number of 8 bytes, two's complement
 abbrev pub int64 : Fixed ℤ
 int64 = refine_field (number 8) (λ n. some (to_z w64 n)) (of_z w64) (λ z. mag z < 2 ^ 63)
-    (λ z h. ap some (to_z-of_z (record { sfits = h }))) (λ z h. (of_z_fits w64 z (record { sfits = h })).fits) L.int64_back
+    (λ z h. ap some (to_z-of_z {w = w64} (record { sfits = h }))) (λ z h. (of_z_fits w64 z (record { sfits = h })).fits) L.int64_back
 
 -- ---- one thing behind another
 

@@ -1,4 +1,6 @@
 // Whether bytes are UTF-8 (RFC 3629).
+#![tactic(auto)]
+
 ghost use Rattle.std.specs.Prelude.{◌≡◌, true, ◌<◌, length, drop};
 ghost use Rattle.bytes_utf8.specs.Decide.{is_utf8};
 ghost use Rattle.bytes_utf8.specs.Chars.{CharAt, ascii};

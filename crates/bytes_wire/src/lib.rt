@@ -1,4 +1,6 @@
 // Numbers as bytes, the lowest first, read from a slice and written into one; and bytes copied.
+#![tactic(auto)]
+
 ghost use Rattle.std.specs.Prelude.{◌≡◌, ◌+◌, ◌≤◌, length};
 ghost use Rattle.bytes_wire.specs.Le.{le, Got};
 ghost use Rattle.bytes_wire.specs.Sets.{Wrote};

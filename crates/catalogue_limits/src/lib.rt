@@ -1,4 +1,6 @@
 // The top sizes of a catalogue: its bytes, its tables, the columns of each, its names.
+#![tactic(auto)]
+
 ghost use Rattle.std.specs.Prelude.{◌≡◌, List, length};
 ghost use Rattle.bytes_format.specs.Layout.{list_of};
 ghost use Rattle.image_value.specs.Parts.{column_schema};

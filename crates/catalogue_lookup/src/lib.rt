@@ -1,4 +1,6 @@
 // Tables, columns and keys looked up in the catalogue's image.
+#![tactic(auto)]
+
 ghost use Rattle.std.specs.Prelude.{◌≡◌, List, [], ◌+◌, ◌≤◌, ◌<◌, length, get_or};
 ghost use Rattle.bytes_format.specs.Layout.{alone, list_of};
 ghost use Rattle.bytes_bundle.specs.Bundle.{parts_of, IsBundle};
@@ -15,7 +17,7 @@ ghost use Rattle.catalogue_lookup.specs.Finds.{Lies, FindsTable, Stands, ReadsCo
 
 use rules::{ColumnId, DataType, Ordinal};
 
-#[derive(Drop)]
+#[derive(Clone, Copy)]
 pub enum Found {
     // where the table begins, and where it ends
     At(usize, usize),
@@ -51,7 +53,7 @@ pub fn find_table(c: &[u8], quoted: bool, name: &[u8]) -> Found
     table_called(c, &room[..n])
 }
 
-#[derive(Drop)]
+#[derive(Clone, Copy)]
 struct Place {
     start: usize,
     end: usize,
@@ -74,7 +76,7 @@ fn lying(s: &[u8], k: usize) -> Place
     }
 }
 
-#[derive(Drop)]
+#[derive(Clone, Copy)]
 enum Standing {
     // the column's number, where it begins, and where it ends
     At(usize, usize, usize),
@@ -111,7 +113,7 @@ fn find_among(s: &[u8], quoted: bool, name: &[u8]) -> Standing
 }
 
 // A column, with the position that it has in its table and the bytes of its name in the table's image.
-#[derive(Drop)]
+#[derive(Clone, Copy)]
 pub struct Column {
     pub id: ColumnId,
     pub ordinal: Ordinal,
@@ -137,7 +139,7 @@ fn read_column(c: &[u8], i: usize, from: usize) -> Column
     }
 }
 
-#[derive(Drop)]
+#[derive(Clone, Copy)]
 pub enum Named {
     Is(Column),
     Nothing,

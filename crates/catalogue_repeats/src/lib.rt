@@ -1,11 +1,13 @@
 // Entries of a list of the catalogue's image told apart: the first that a later one repeats.
+#![tactic(auto)]
+
 ghost use Rattle.std.specs.Prelude.{◌≡◌};
 ghost use Rattle.bytes_bundle.specs.Bundle.{parts_of, IsBundle};
 ghost use Rattle.rules.specs.Lists.{distinct};
 ghost use Rattle.catalogue_repeats.specs.Repeats.{Told, AllTold, alike_by, first_repeated};
 
 // What tells two entries of a list apart: the name of a table or a column, its id, or an id that stands for itself.
-#[derive(Drop)]
+#[derive(Clone, Copy)]
 pub enum By {
     Name,
     Id,
@@ -27,7 +29,7 @@ fn alike(a: &[u8], b: &[u8], by: By) -> bool
     }
 }
 
-#[derive(Drop)]
+#[derive(Clone, Copy)]
 pub enum Repeat {
     Nowhere,
     At(usize),

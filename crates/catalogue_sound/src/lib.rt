@@ -1,4 +1,6 @@
 // Whether the tables of an image are sound: no name and no id twice, and keys of columns that are there.
+#![tactic(auto)]
+
 ghost use Rattle.std.specs.Prelude.{◌≡◌, List};
 ghost use Rattle.bytes_format.specs.Layout.{alone, list_of};
 ghost use Rattle.bytes_bundle.specs.Bundle.{is_there};

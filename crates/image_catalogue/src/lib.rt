@@ -1,4 +1,6 @@
 // The catalogue's image. `specs/Layout.antt` has its layout and the two round trips.
+#![tactic(auto)]
+
 ghost use Rattle.std.specs.Prelude.{◌≡◌};
 ghost use Rattle.bytes_format.specs.Layout.{alone, list_of};
 ghost use Rattle.bytes_bundle.specs.Bundle.{is_there};

@@ -1,4 +1,6 @@
 // CREATE TABLE: its columns, their options, and its constraints.
+#![tactic(auto)]
+
 ghost use Rattle.std.specs.Prelude.{◌≡◌, Bool, List};
 ghost use Rattle.bytes_format.specs.Layout.{alone, mark, headed, list_of};
 ghost use Rattle.bytes_bundle.specs.Bundle.{is_there};

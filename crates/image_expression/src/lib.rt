@@ -1,4 +1,6 @@
 // An expression's run, read: whether bytes are one, its nodes by their numbers, how deep its tree is, and its names.
+#![tactic(auto)]
+
 mod layout;
 mod names;
 mod reader;

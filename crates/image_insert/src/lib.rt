@@ -1,4 +1,6 @@
 // INSERT: its columns, and the rows that it gives.
+#![tactic(auto)]
+
 ghost use Rattle.std.specs.Prelude.{◌≡◌, Bool, List};
 ghost use Rattle.std.proofs.Math.Option.{some};
 ghost use Rattle.bytes_format.specs.Ways.{optional_read};

@@ -1,4 +1,6 @@
 // A row's image. `specs/Layout.antt` has its layout and the two round trips.
+#![tactic(auto)]
+
 mod column;
 mod columns;
 

@@ -1,4 +1,6 @@
 // The statement's image: whether bytes are one, and its parts. `specs/Layout.antt` of `image_parts` has the layout and the two round trips.
+#![tactic(auto)]
+
 ghost use Rattle.std.specs.Prelude.{◌≡◌, Bool};
 ghost use Rattle.bytes_bundle.specs.Bundle.{is_there};
 ghost use Rattle.image_parts.specs.Layout.{kind, statement};

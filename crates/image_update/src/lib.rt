@@ -1,4 +1,6 @@
 // An UPDATE.
+#![tactic(auto)]
+
 ghost use Rattle.std.specs.Prelude.{◌≡◌};
 ghost use Rattle.bytes_format.specs.Layout.{list_of};
 ghost use Rattle.bytes_bundle.specs.Bundle.{is_there};

@@ -1,4 +1,6 @@
 // What several images hold: ids, type codes, values and columns. `specs/Parts.antt` has their layouts. A value is told and read here.
+#![tactic(auto)]
+
 ghost use Rattle.std.specs.Prelude.{◌≡◌, Bool, ℤ};
 ghost use Rattle.std.specs.Int.{w64};
 ghost use Rattle.std.proofs.Common.{to_z};

@@ -1,4 +1,6 @@
 // The public operation `bind`. `op_received` has what it answers on bytes, `op_reply` what its output then holds.
+#![tactic(auto)]
+
 ghost use Rattle.std.specs.Prelude.{length};
 ghost use Rattle.op_reply.specs.Leaves.{Leaves};
 ghost use Rattle.op_received.specs.Entry.{bind_bytes};

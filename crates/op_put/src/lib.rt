@@ -1,4 +1,6 @@
 // A statement that is bound: its image where there is room for it.
+#![tactic(auto)]
+
 ghost use Rattle.std.specs.Prelude.{length};
 ghost use Rattle.op_reply.specs.Leaves.{Leaves};
 ghost use Rattle.op_received.specs.Entry.{bind_bytes};

@@ -1,4 +1,6 @@
 // What is told of a statement's bytes and of a catalogue's before the rules are asked: paper 01's refusals 5 to 8, and 0 where there is none.
+#![tactic(auto)]
+
 ghost use Rattle.std.specs.Prelude.{◌≡◌};
 ghost use Rattle.op_received.specs.Told.{told_of_statement, told_of_catalogue, told_of_both};
 

@@ -1,4 +1,6 @@
 // What a caller of a public operation hears. `specs/Leaves.antt` has what an output then holds.
+#![tactic(auto)]
+
 ghost use Rattle.std.specs.Prelude.{◌≡◌};
 ghost use Rattle.rules.specs.Heard.{class_no};
 ghost use Rattle.op_reply.specs.Leaves.{reply};
@@ -6,7 +8,7 @@ ghost use Rattle.op_reply.specs.Leaves.{reply};
 use rules::{Class, Refusal};
 
 // 0 and how many bytes were written at the front of the output, or the number of a refusal and 0.
-#[derive(Drop)]
+#[derive(Clone, Copy)]
 pub struct Reply {
     pub refusal: u8,
     pub length: usize,

@@ -1,4 +1,6 @@
 // The public operation `run`: an UPDATE run on one row. `op_received` has what it answers on bytes, `op_reply` what its output then holds.
+#![tactic(auto)]
+
 ghost use Rattle.std.specs.Prelude.{◌≡◌, length};
 ghost use Rattle.bytes_bundle.specs.Bundle.{is_there};
 ghost use Rattle.bytes_bundle.specs.Held.{Is, Holds};

@@ -1,5 +1,7 @@
 // Replays the two records: `data/README` says how each was made and how it is laid out. What is counted of a record is `replay_walk`'s;
 // here it is read and printed.
+#![tactic(auto)]
+
 use replay_record::{Of, Replayed, Tally};
 use replay_walk::replayed;
 use replay_walk::said::{read, say, say_damage, say_number};

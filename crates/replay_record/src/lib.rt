@@ -1,5 +1,7 @@
 // Records of cases with the answers that are expected: how one is laid out, whether an answer is the expected one, and what is counted.
 // `specs/Layout.antt` has the layout.
+#![tactic(auto)]
+
 ghost use Rattle.std.specs.Prelude.{true, ◌≡◌, ◌+◌, ◌*◌, ◌≤◌, ◌<◌, length};
 ghost use Rattle.bytes_wire.specs.Le.{Got};
 ghost use Rattle.replay_record.specs.Layout.{parts_of, starts, part, most, is_case};
@@ -17,14 +19,14 @@ pub const BIND_PARTS: usize = 3;
 pub const RUN_PARTS: usize = 4;
 
 // What a record is of: statements bound, or run on a row.
-#[derive(Drop)]
+#[derive(Clone, Copy)]
 pub enum Of {
     Binds,
     Runs,
 }
 
 // What was counted of some cases, by the answers that are expected.
-#[derive(Drop)]
+#[derive(Clone, Copy)]
 pub struct Tally {
     pub cases: u64,
     pub answered: u64,
@@ -34,7 +36,7 @@ pub struct Tally {
 }
 
 // Of a record that is not whole, the cases in front of the damage are counted.
-#[derive(Drop)]
+#[derive(Clone, Copy)]
 pub struct Replayed {
     pub is_whole: bool,
     pub tally: Tally,

@@ -1,5 +1,7 @@
 // A record replayed: each case is bound or run here, and the cases whose answer is not the expected one are counted.
 // `replay_record` says how a record is laid out.
+#![tactic(auto)]
+
 pub mod said;
 
 ghost use Rattle.std.specs.Prelude.{true, ◌≡◌, length};

@@ -1,6 +1,6 @@
 -- A condition, and a value given to a column.
 -- Assumes nothing: these are definitions.
-use Rattle.std.specs.Prelude.{Bool, cond, not, ◌&&◌}
+use Rattle.std.specs.Prelude.{cond, not, ◌&&◌}
 use Rattle.rules.specs.declared.Class.TheVariants.{SchemaMismatch, ConstraintViolation}
 use Rattle.rules.specs.declared.ExpressionType.TheVariants as type
 use Rattle.rules.specs.declared.Mark.{Mark}

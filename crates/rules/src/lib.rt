@@ -1,25 +1,26 @@
 // The small types that the rules and the code share, with the names of the Rust: the ids, `DataType` of the common crate, and
 // what bound.rs enumerates. The rules themselves are in specs/, over plain values; there is no code here.
+#![tactic(auto)]
 
-#[derive(Drop)]
+#[derive(Clone, Copy)]
 pub struct TableId(pub u64);
 
 // A column's stable identity. It never serves as a row position.
-#[derive(Drop)]
+#[derive(Clone, Copy)]
 pub struct ColumnId(pub u64);
 
 // A row position, counted from 0.
-#[derive(Drop)]
+#[derive(Clone, Copy)]
 pub struct Ordinal(pub usize);
 
-#[derive(Drop)]
+#[derive(Clone, Copy)]
 pub enum DataType {
     Int,
     Text,
     Bool,
 }
 
-#[derive(Drop)]
+#[derive(Clone, Copy)]
 pub enum ExpressionType {
     Int,
     Text,
@@ -28,20 +29,20 @@ pub enum ExpressionType {
 }
 
 // What a marking gives a node: a type, and whether the value may be null.
-#[derive(Drop)]
+#[derive(Clone, Copy)]
 pub struct Mark {
     pub ty: ExpressionType,
     pub nullable: bool,
 }
 
-#[derive(Drop)]
+#[derive(Clone, Copy)]
 pub enum BoundUnaryOperator {
     Positive,
     Negative,
     Not,
 }
 
-#[derive(Drop)]
+#[derive(Clone, Copy)]
 pub enum BoundBinaryOperator {
     Add,
     Subtract,
@@ -59,7 +60,7 @@ pub enum BoundBinaryOperator {
 }
 
 // The Rust's classes of error that the analyzer makes.
-#[derive(Drop)]
+#[derive(Clone, Copy)]
 pub enum Class {
     SchemaMismatch,
     ConstraintViolation,
@@ -67,7 +68,7 @@ pub enum Class {
     InvalidArgument,
 }
 
-#[derive(Drop)]
+#[derive(Clone, Copy)]
 pub struct Refusal {
     pub class: Class,
 }

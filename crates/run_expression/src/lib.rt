@@ -1,5 +1,7 @@
 // Works out an expression over a row. All operands are worked out, the left one first; the node's number falls on the way round, and the calls
 // are as deep as the expression. What has no rule is answered as a fault.
+#![tactic(auto)]
+
 mod leaves;
 
 ghost use Rattle.std.specs.Prelude.{◌≡◌, ◌<◌, ◌≤◌};

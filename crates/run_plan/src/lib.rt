@@ -1,4 +1,6 @@
 // Which assignment of an UPDATE each position of a row takes its value from.
+#![tactic(auto)]
+
 ghost use Rattle.std.specs.Prelude.{◌≡◌, List, replicate};
 ghost use Rattle.bytes_format.specs.Layout.{list_of};
 ghost use Rattle.bytes_bundle.specs.Held.{Holds};
@@ -21,7 +23,7 @@ use run_values::Worth;
 use run_worth::is_fault;
 
 // The position that an assignment gives its value to; nowhere: its value is a fault, or its target no column.
-#[derive(Drop)]
+#[derive(Clone, Copy)]
 pub enum Place {
     At(usize),
     Nowhere,

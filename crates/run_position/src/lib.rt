@@ -1,4 +1,6 @@
 // One position of the row that an UPDATE makes: the old value, or the one that an assignment comes to.
+#![tactic(auto)]
+
 ghost use Rattle.std.specs.Prelude.{◌≡◌, ◌≤◌, length};
 ghost use Rattle.bytes_wire.specs.Sets.{Wrote};
 ghost use Rattle.bytes_bundle.specs.Held.{Holds};

@@ -1,4 +1,6 @@
 // The row that an UPDATE makes of a row: measured, or a fault; and written.
+#![tactic(auto)]
+
 ghost use Rattle.std.specs.Prelude.{◌≡◌, List, ◌+◌, length};
 ghost use Rattle.bytes_wire.specs.Sets.{Wrote};
 ghost use Rattle.bytes_format.specs.Layout.{list_of};
@@ -22,7 +24,7 @@ use run_position::{put_value, value_len};
 use run_worth::{is_fault, is_true};
 
 // How long the new row's image is, or that there is none: an arithmetic fault, or what has no rule.
-#[derive(Drop)]
+#[derive(Clone, Copy)]
 pub enum Ran {
     Is(usize),
     Fault,

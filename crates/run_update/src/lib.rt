@@ -1,4 +1,6 @@
 // An UPDATE over its table, run on one row: 10, 11, 9, or the new row.
+#![tactic(auto)]
+
 ghost use Rattle.std.specs.Prelude.{length};
 ghost use Rattle.rules.specs.Heard.{Running};
 ghost use Rattle.op_reply.specs.Leaves.{Leaves};

@@ -1,4 +1,6 @@
 // What working out an expression comes to, and what the operators make of one or two of them.
+#![tactic(auto)]
+
 mod orders;
 mod pairs;
 mod singles;
@@ -14,13 +16,13 @@ ghost use Rattle.run_values.specs.Worths.{spelling, value_of, Sound, Images, Spe
 use rules::Ordinal;
 
 // Which image a text is a part of: no byte of it is copied.
-#[derive(Drop)]
+#[derive(Clone, Copy)]
 pub enum Side {
     Row,
     Statement,
 }
 
-#[derive(Drop)]
+#[derive(Clone, Copy)]
 pub enum Worth {
     Null,
     Int(i64),

@@ -1,4 +1,6 @@
 // What working out comes to, as a value of a row's image: how long it is, and its bytes.
+#![tactic(auto)]
+
 ghost use Rattle.std.specs.Prelude.{◌≡◌, ◌≤◌, length};
 ghost use Rattle.std.proofs.Math.Option.{some};
 ghost use Rattle.bytes_wire.specs.Sets.{Wrote};

@@ -1,5 +1,7 @@
 // Runs one UPDATE on one row: the files `catalogue` and `row`, and a statement image on standard input. One line out: `row N`, and the new
 // row's image of N bytes is in the file `new_row`; or `refused R`, and no file is touched; or `not written`.
+#![tactic(auto)]
+
 ghost use Rattle.std.specs.Prelude.{◌≡◌, length};
 ghost use Rattle.io.specs.Counts.{IsPrefixLen};
 ghost use Rattle.rules.specs.Heard.{refuses, answers};

@@ -1,5 +1,7 @@
 // The public operations and the readers as C calls them: a slice is a pointer and a length, and any bytes will do. Nothing is judged here that
 // a crate below does not judge.
+#![tactic(auto)]
+
 ghost use Rattle.std.specs.Prelude.{◌≡◌, length};
 ghost use Rattle.bytes_bundle.specs.Bundle.{is_there};
 ghost use Rattle.image_parts.specs.Layout.{statement};

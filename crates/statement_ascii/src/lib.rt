@@ -1,4 +1,6 @@
 // Number 8 of paper 01: whether an unquoted name in a statement holds a byte of 128 or more. Every part is looked at through its accessors.
+#![tactic(auto)]
+
 mod creates;
 mod deletes;
 mod inserts;

@@ -11,7 +11,7 @@ use crate::selects::item_beyond;
 use crate::updates::assignment_beyond;
 
 // What an entry is, where it holds no list.
-#[derive(Drop)]
+#[derive(Clone, Copy)]
 pub enum Of {
     Names,
     Columns,
@@ -21,7 +21,7 @@ pub enum Of {
 }
 
 // What an entry is, where it holds a list: a constraint, the names of its key; a row, its values.
-#[derive(Drop)]
+#[derive(Clone, Copy)]
 pub enum Nest {
     Constraints,
     Rows,

@@ -14,7 +14,7 @@ use crate::expressions::is_expression_within;
 use crate::leaves::{Leaves, are_leaves_within};
 use crate::names::{is_name_within, is_object_name_within};
 
-#[derive(Drop)]
+#[derive(Clone, Copy)]
 pub enum Lists {
     Columns,
     Constraints,

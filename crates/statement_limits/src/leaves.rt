@@ -9,7 +9,7 @@ ghost use Rattle.statement_limits.specs.Kinds.{Leaf, leaf_form, leaf_within};
 use crate::expressions::is_expression_within;
 use crate::names::is_name_within;
 
-#[derive(Drop)]
+#[derive(Clone, Copy)]
 pub enum Leaves {
     Names,
     Values,

@@ -1,4 +1,6 @@
 // The top sizes of a statement (paper 01, refusal 7). Every part is looked at through its accessors; no byte position is known here.
+#![tactic(auto)]
+
 mod creates;
 mod deletes;
 mod entries;

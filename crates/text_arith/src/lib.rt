@@ -1,10 +1,12 @@
 // Exact arithmetic on 64 signed bits: the result, or a fault exactly where it lies outside the range or the divisor is 0.
 // A number is taken apart into a sign and a size, which is worked on with unsigned numbers, and put together in one place.
+#![tactic(auto)]
+
 ghost use Rattle.std.specs.Prelude.{◌≡◌, ◌≤◌, ◌^◌, nat_abs, ◌+ℤ◌};
 ghost use Rattle.rules.specs.Numbers.{signed, sum, difference, product, quotient, remainder, negation};
 ghost use Rattle.text_arith.specs.Exact.{is_neg, told_exact, exact};
 
-#[derive(Drop)]
+#[derive(Clone, Copy)]
 pub enum Exact {
     Value(i64),
     Fault,

@@ -1,4 +1,6 @@
 // Names as they are compared: quoted ones keep their bytes, unquoted ones fold A to Z.
+#![tactic(auto)]
+
 ghost use Rattle.std.specs.Prelude.{◌≡◌, map, ◌≤◌, length, take};
 ghost use Rattle.rules.specs.Lists.{same};
 ghost use Rattle.rules.specs.Names.{fold, canonical, beyond_ascii};

@@ -1,11 +1,13 @@
 // Number text of any length against the range of 64 signed bits, with no wider integers: past the range the size stays just past it.
+#![tactic(auto)]
+
 ghost use Rattle.std.specs.Prelude.{◌≡◌};
 ghost use Rattle.rules.specs.Numbers.{integer_literal};
 ghost use Rattle.text_numbers.specs.Literal.{told, digits_literal};
 
 use text_arith::Exact;
 
-#[derive(Drop)]
+#[derive(Clone, Copy)]
 pub enum Literal {
     Value(i64),
     Bad,

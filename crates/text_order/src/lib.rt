@@ -1,8 +1,10 @@
 // TEXT is compared by bytes, a proper prefix first: one pass over both.
+#![tactic(auto)]
+
 ghost use Rattle.std.specs.Prelude.{◌≡◌};
 ghost use Rattle.text_order.specs.Order.{order_of};
 
-#[derive(Drop)]
+#[derive(Clone, Copy)]
 pub enum Order {
     Less,
     Same,

@@ -1,12 +1,14 @@
 // White space at both ends of UTF-8 text, by a table of ranges of code points, and the statement that the text alone tells. What is
 // left of a text is a part of the text that was lent.
+#![tactic(auto)]
+
 ghost use Rattle.std.specs.Prelude.{◌≡◌, true, get_or};
 ghost use Rattle.rules.specs.Trimmed.{white, white1, white2, white3, width, last_but, front_width, back_width, trimmed_front, trimmed_back, trimmed};
 ghost use Rattle.rules.specs.Trimmed.{without_semicolon, dispatched, is_show_transactions};
 ghost use Rattle.text_trim.specs.Plain.{Plain};
 
 // From a code point to a code point.
-#[derive(Drop)]
+#[derive(Clone, Copy)]
 struct Range(u32, u32);
 
 // White_Space.

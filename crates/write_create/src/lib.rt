@@ -1,5 +1,7 @@
 // A bound CREATE TABLE, written: its code, its name, its columns, the ids of its key; the head of the record last, when the ends of its
 // parts are known.
+#![tactic(auto)]
+
 ghost use Rattle.std.specs.Prelude.{◌≡◌, not, ◌&&◌, List, [], ◌∷◌, map, ◌+◌, ◌≤◌, ◌<◌, length, take};
 ghost use Rattle.std.proofs.Math.Option.{Option, some};
 ghost use Rattle.bytes_format.specs.Layout.{list_of};

@@ -1,4 +1,6 @@
 // The bound DELETE. The code and the head of the record have 13 bytes, and are written behind the parts, when the ends of these are known.
+#![tactic(auto)]
+
 ghost use Rattle.std.specs.Prelude.{◌≡◌};
 ghost use Rattle.bytes_wire.specs.Sets.{Wrote};
 ghost use Rattle.bytes_bundle.specs.Held.{Holds};

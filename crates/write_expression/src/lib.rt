@@ -1,5 +1,7 @@
 // Writes the bound expression of an expression over a table: one row for each of its nodes, operands first, and the contents of its leaves.
 // Rows and contents are written side by side. Binding is known to be given here, and to have room.
+#![tactic(auto)]
+
 pub mod columns;
 mod counts;
 mod leaves;
@@ -28,7 +30,7 @@ use leaves::{put_content, put_number};
 use nodes::{one_operand, put_root, signs_number, two_operands};
 
 // What a node is bound to: its mark, how many nodes it has, and how many bytes the contents of its leaves have.
-#[derive(Drop)]
+#[derive(Clone, Copy)]
 pub struct Bound {
     pub mark: rules::Mark,
     pub nodes: usize,
@@ -37,7 +39,7 @@ pub struct Bound {
 
 // A leaf whose content is written: its kind as a bound node, its mark in two parts, and where its content ends.
 // `end` stands between the parts: side by side they are stored byte by byte and loaded as one, which waits for both stores at each leaf.
-#[derive(Drop)]
+#[derive(Clone, Copy)]
 struct Leaf {
     kind: u8,
     ty: rules::ExpressionType,

@@ -1,4 +1,6 @@
 // The bound image of an INSERT, written: its table, its columns and its rows, then what stands before them.
+#![tactic(auto)]
+
 ghost use Rattle.std.specs.Prelude.{◌≡◌};
 ghost use Rattle.bytes_wire.specs.Sets.{Wrote};
 ghost use Rattle.bytes_bundle.specs.Held.{Is, Holds};

@@ -1,4 +1,6 @@
 // The rows of an INSERT, written: a list of lists of values.
+#![tactic(auto)]
+
 ghost use Rattle.std.specs.Prelude.{◌+◌, ◌≤◌, length};
 ghost use Rattle.bytes_wire.specs.Le.{le};
 ghost use Rattle.bytes_wire.specs.Sets.{Wrote};

@@ -1,4 +1,6 @@
 // The bound SELECT. The code and the head of the record have 17 bytes, and are written behind the parts, when the ends of these are known.
+#![tactic(auto)]
+
 ghost use Rattle.std.specs.Prelude.{◌≡◌, List};
 ghost use Rattle.std.proofs.Math.Option.{Option};
 ghost use Rattle.bytes_wire.specs.Sets.{Wrote};

@@ -1,5 +1,7 @@
 // The columns that a SELECT's items name, written as a list: how many, the length of each, the columns. An item may name many columns (`*`),
 // so they are counted first, and written at two cursors.
+#![tactic(auto)]
+
 ghost use Rattle.std.specs.Prelude.{◌≡◌, List, [], ◌∷◌, ◌+◌, ◌≤◌, length};
 ghost use Rattle.std.proofs.Math.Option.{some};
 ghost use Rattle.bytes_wire.specs.Sets.{Wrote};
@@ -29,7 +31,7 @@ use rules::{Ordinal, TableId};
 use write_expression::columns::put_found;
 
 // Where the next length goes, and where the next column.
-#[derive(Drop)]
+#[derive(Clone, Copy)]
 struct Cursor {
     row: usize,
     to: usize,

@@ -1,5 +1,7 @@
 // The bound statement's image, written where the statement is bound and its image has room: by the raw text, and then by the kind, as
 // `bind_statement` measures it.
+#![tactic(auto)]
+
 ghost use Rattle.std.specs.Prelude.{◌≡◌};
 ghost use Rattle.image_bound.specs.Layout.{bound_statement};
 ghost use Rattle.bytes_bundle.specs.Held.{Holds};

@@ -1,5 +1,7 @@
 // A bound UPDATE, written: its code, its table, its assignments, its condition; the head of a record last, when the ends of its parts are
 // known.
+#![tactic(auto)]
+
 ghost use Rattle.std.specs.Prelude.{◌≡◌, List, []};
 ghost use Rattle.bytes_wire.specs.Sets.{Wrote};
 ghost use Rattle.bytes_format.specs.Layout.{list_of};

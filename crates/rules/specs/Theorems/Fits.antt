@@ -1,6 +1,6 @@
 -- A condition, and a value given to a column, as relations.
 -- Assumes nothing.
-use Rattle.std.specs.Prelude.{◌≡◌, refl, Bool, true, false, not, ◌&&◌, ◌↔◌, ◌⊎◌}
+use Rattle.std.specs.Prelude.{◌≡◌, refl, Bool, true, false, not, ◌&&◌, ◌↔◌}
 use Rattle.std.proofs.Common.{ap, true≢false, inl, inr, ⊎_elim}
 use Rattle.std.proofs.lemmas.Bool.{false≢true, not-false}
 use Rattle.rules.specs.declared.Class.TheVariants.{SchemaMismatch, ConstraintViolation}

@@ -1,6 +1,6 @@
 -- "Runs table: proved cases": the fourteen rows of paper 01 as one list, and the one statement that each is answered as the paper says.
 -- Assumes nothing.
-use Rattle.std.specs.Prelude.{◌≡◌, refl, Bool, true, false, List, [], ◌∷◌, map, ℕ, ◌^◌, ◌-◌, pos, negsuc}
+use Rattle.std.specs.Prelude.{◌≡◌, refl, true, false, List, [], ◌∷◌, map, ℕ, ◌^◌, ◌-◌, pos, negsuc}
 use Rattle.std.proofs.Math.Option.{Option, some}
 use Prim.Native.String.{String}
 use Rattle.tree.specs.Tree.{leaf, un, bin, depth}
@@ -8,7 +8,7 @@ use Rattle.rules.specs.declared.DataType.TheVariants as data-type
 use Rattle.rules.specs.declared.BoundUnaryOperator.TheVariants.{Negative}
 use Rattle.rules.specs.declared.BoundBinaryOperator.{BoundBinaryOperator}
 use Rattle.rules.specs.declared.BoundBinaryOperator.TheVariants as op
-use Rattle.rules.specs.Lists.{Text, ascii}
+use Rattle.rules.specs.Lists.{ascii}
 use Rattle.rules.specs.Answers.{each}
 use Rattle.rules.specs.Tables.{TableSchema, table_by_name}
 use Rattle.rules.specs.Statements.{Name, ObjectName, Leaf, Expr, parentheses, null_test, unary, binary, direct, target, Statement, update}

@@ -1,0 +1,12 @@
+-- `text_arith::sub` meets its contract.
+use mathlib.Core.Path.{◌∙◌}
+use Rattle.text_arith.proofs.Laws.{difference_is}
+use Rattle.text_arith.proofs.sub.Goals as goal
+
+pub returns : goal.returns
+returns c =
+    let a = c.args in
+    let f = c.ranges in
+    c.joined.ensures
+    ∙ difference_is a.a a.b f.a f.b _ _ _ _ c.negative.ensures c.negative-2.ensures
+    c.size.ensures.0 c.size-2.ensures.0

@@ -1,0 +1,12 @@
+-- `text_trim::back` meets its contract.
+use mathlib.Core.Path.{subst}
+use borrow.Author.Rules.{rules}
+use Rattle.text_trim.specs.Plain.{Plain}
+use Rattle.text_trim.proofs.Laws.{plain_back}
+use Rattle.text_trim.proofs.back.Goals as goal
+
+pub returns-then-is_plain : goal.returns-then-is_plain
+returns-then-is_plain c = plain_back c.args.s.now (subst Plain c.last_but-c.ensures (c.is_plain.ensures c.if-is_plain.true))
+
+pub returns : goal.returns
+returns c = cc

@@ -1,0 +1,310 @@
+#!/usr/bin/env python3
+"""Turns the proofs of a crate's functions from one Proof.antt each, as port.py leaves them, to Invariants.antt and Answers.antt.
+
+usage: python3 tools/port/answers.py CRATE..    at the top of the repository, with what CRATE stands on proved
+
+It asks the prover for the old and the new name of each goal and place, writes the paths to facts anew (`c.before.before.if1.true` becomes
+`c.if-n-m.true`), and leaves out what the prover finds alone. A line that begins 'left:' says what is to be done by hand. The old files go.
+"""
+
+import json
+import os
+import re
+import subprocess
+import sys
+import tempfile
+
+NAME = r'[^\s(){}.;,@"«»]+'
+PATH = re.compile(r"(?<![^\s(){};,@⟨⟩])(" + NAME + r")((?:\.(?:" + NAME + r"|«" + NAME + r"»))*)")
+
+
+def norm(name):
+    return name.strip("«»").replace("_", "-")
+
+
+def bare_goal(name):
+    return re.sub(r"^(overflow|nonzero|slice-bounds|part|bounds|index)-", "", norm(name))
+
+
+class Function:
+    def __init__(self, crate, path, told):
+        self.crate, self.path, self.told = crate, path, told
+        self.left = []
+        self.places = told["places"]
+        self.by_old = {norm(p[0]): k for k, p in enumerate(self.places)}
+        self.names = told["places_by_name"]
+        self.goals = {}
+        for k, (old, new) in enumerate(told["needs"]):
+            place = self.by_old[norm(told["asked_at"][k][0])]
+            self.goals[bare_goal(old)] = (new, place)
+        self.loops = {norm(pair[0]): (pair[1], vars_, told["changed"][k]) for k, (pair, vars_) in enumerate(told["loops"])}
+
+    def parent(self, k):
+        old = self.places[k][1]
+        return None if old is None else self.by_old[norm(old)]
+
+    def line(self, k):
+        """The place and those before it."""
+        while k is not None:
+            yield k
+            k = self.parent(k)
+
+    def step(self, goal_place, at, fields):
+        """The new path to a fact at a place, seen from the goal's place."""
+        label, rest = norm(fields[0]), fields[1:]
+        for typed in self.told["typed"][at]:
+            if norm(typed[1]) == label and rest[:1] == ["given"]:
+                return ["type_inv", typed[0]] + rest[1:]
+        for k in self.line(goal_place):
+            arm = self.told["arms"][k]
+            if arm:
+                for new, old, old_fields in arm[2]:
+                    if norm(old) == label and [norm(f) for f in rest[: len(old_fields)]] == [norm(f) for f in old_fields]:
+                        if old_fields or k == at:
+                            return [arm[0], new] + rest[len(old_fields) :]
+        if norm(self.places[at][2][0]) == label:
+            return [self.places[at][2][1]] + self.inside(at, rest)
+        if self.parent(at) is None and label in ("args", "requires", "ranges"):
+            return fields
+        # the prover has fewer places than it had: a step's label tells it, wherever it is on the way
+        found = [k for k in self.line(goal_place) if norm(self.places[k][2][0]) == label or any(norm(v[1]) == label for v in self.told["typed"][k])]
+        found += [k for k in self.line(goal_place) if self.parent(k) is None and label in ("args", "requires", "ranges")]
+        if found and found[0] != at:
+            return self.step(goal_place, found[0], fields)
+        self.left.append(f"no step {fields[0]} at {self.names[at]} ({'.'.join(fields)})")
+        return fields
+
+    def inside(self, at, rest):
+        return [r.strip("«»") if r not in ("«of»", "«as»", "«in»") else r for r in rest]
+
+    def turn(self, text, place, goal, var="c"):
+        """A proof's text at a place, with its paths anew. goal is None in a lemma over a place."""
+        aliases = {var: place}
+
+        def walk(head, fields):
+            at = aliases[head]
+            while fields and fields[0] == "before":
+                at = self.parent(at)
+                fields = fields[1:]
+                if at is None:
+                    at = self.by_old["Start"]
+                    while fields and fields[0] == "before":
+                        fields = fields[1:]
+            return at, fields
+
+        def whole(at):
+            if goal is None:
+                if at != place:
+                    self.left.append("a lemma hands on another place")
+                return var
+            return f"(goal.at.{goal} {var}).{self.names[at]}"
+
+        out, at_text = [], 0
+        let = re.compile(r"let (" + NAME + r") = (" + NAME + r"(?:\.before)*) in\s+")
+        # place aliases, in order
+        while True:
+            found = None
+            for m in let.finditer(text):
+                head = m[2].split(".")[0]
+                if head in aliases:
+                    found = m
+                    break
+            if not found:
+                break
+            at, fields = walk(found[2].split(".")[0], found[2].split(".")[1:])
+            if found[1] in aliases and found[1] != var:
+                self.left.append(f"two places are called {found[1]}")
+            aliases[found[1]] = at
+            text = text[: found.start()] + text[found.end() :]
+
+        def one(m):
+            head = m[1]
+            if head not in aliases:
+                return m[0]
+            fields = re.findall(r"\.(«" + NAME + r"»|" + NAME + r")", m[2])
+            at, fields = walk(head, fields)
+            if not fields:
+                return whole(at)
+            return ".".join([var] + self.step(place, at, fields))
+
+        # what is known of `!x` speaks of x itself now
+        return re.sub(r"\bnot-(?:true|false) (?:_|c\.[^\s()]+) (c\.[^\s()]*)", r"\1", PATH.sub(one, text))
+
+
+def blocks(text):
+    """The parts of a file between blank lines."""
+    return [b for b in re.split(r"\n\s*\n", text.strip("\n")) if b.strip()]
+
+
+def substitute(text, names):
+    return PATH.sub(lambda m: (names[m[1]] + m[2]) if m[1] in names else m[0], text)
+
+
+def convert(crate, folder, path, told):
+    f = Function(crate, path, told)
+    with open(os.path.join(folder, "Proof.antt"), encoding="utf-8") as it:
+        parts = blocks(it.read())
+    comment, uses, over, invariants, answers = [], [], [], [], []
+    head = parts[0].split("\n")
+    for line in head:
+        if line.startswith("--"):
+            comment.append(line)
+        else:
+            uses.append(line)
+    for part in parts[1:]:
+        if part.startswith("use "):
+            uses += part.split("\n")
+            continue
+        lines = part.split("\n")
+        notes = []
+        while lines and lines[0].startswith("--"):
+            notes.append(lines.pop(0))
+        if not lines:
+            answers.append("\n".join(notes))
+            continue
+        body = "\n".join(lines)
+        if "tie.close" in body:
+            continue
+        m = re.match(r"(?:abbrev )?(?:pub )?(" + NAME + r") : tie\.(\S+)", body)
+        if m and m[2].startswith(("invariant-loop", "decreases-loop")):
+            kind, loop = m[2].split("-", 1)
+            new, vars_, changed = f.loops[norm(loop)]
+            eq = re.search(r"(?m)^" + re.escape(m[1]) + r" (.*?)\s*=(?=\s)", body)
+            params = eq[1].split()
+            targets = [f"l.initial.{v}" if c else f"l.{v}" for v, c in zip(vars_, changed)] + [f"l.{v}" for v, c in zip(vars_, changed) if c]
+            if len(params) != len(targets):
+                f.left.append(f"{m[1]} has {len(params)} arguments, and {len(targets)} are known")
+            text = substitute(body[eq.end() :], dict(zip(params, targets)))
+            between = body[body.index("\n") + 1 : eq.start()]
+            invariants.append("\n".join(notes + [f"abbrev pub {kind}-{new} : goal.{kind}-{new}"]) + "\n" + between + f"{kind}-{new} l =" + text)
+            continue
+        if m and m[2].startswith("Need-"):
+            name = bare_goal(m[2][len("Need-") :])
+            if name not in f.goals and re.search(r"=\s*search rules\s*$", body):
+                continue
+            if name not in f.goals:
+                f.left.append(f"no goal {m[2]}; known: {sorted(f.goals)}")
+                continue
+            new, place = f.goals[name]
+            eq = re.search(r"(?m)^" + re.escape(m[1]) + r" (.*?)\s*=(?=\s)", body)
+            if not eq:
+                f.left.append(f"{m[1]} has no equation")
+                continue
+            text = body[eq.end() :]
+            if re.fullmatch(r"\s*search rules\s*", text):
+                continue
+            params = [it for it in eq[1].split() if not it.startswith("κ")]
+            var = params[0]
+            between = body[body.index("\n") + 1 : eq.start()]
+            answers.append("\n".join(notes + [f"pub {new} : goal.{new}"]) + "\n" + between + f"{new} {' '.join(params)} =" + f.turn(text, place, new, var))
+            continue
+        # a lemma or a definition of the file's own
+        places = []
+
+        def place_of(m):
+            k = f.by_old.get(norm(m[1]))
+            if k is None:
+                f.left.append(f"no place {m[1]}")
+                return m[0]
+            places.append(k)
+            return f.names[k]
+
+        body2 = re.sub(r"tie\.((?:After|Then|Else|In|At|Start)\S*?)(?: (?:invariant|decreases)-loop[\w-]*)*(?=[\s)])", place_of, body)
+        if "tie." in body2:
+            f.left.append("a lemma cites tie: " + body2.split("\n")[0])
+        if places:
+            sig = re.search(r"\((\S+) : " + re.escape(f.names[places[0]]) + r"\)", body2)
+            eq = re.search(r"(?m)^" + NAME + r" (.*?)\s*=(?=\s)", body2)
+            var = None
+            if sig and eq:
+                first = eq[1].split()
+                # the argument of the equation that stands where the place does
+                binders = re.findall(r"\(((?:\S+ )+): ", body2[: eq.start()])
+                names = [n for b in binders for n in b.split()]
+                var = first[names.index(sig[1])] if sig[1] in names and names.index(sig[1]) < len(first) else sig[1]
+                k = places[0]
+                signature = f.turn(body2[: eq.start()], k, None, sig[1])
+                body2 = signature + body2[eq.start() : eq.end()] + f.turn(body2[eq.end() :], k, None, var)
+            else:
+                f.left.append("a lemma over a place: " + body2.split("\n")[0])
+            over.append(f"use Rattle.{crate}.proofs.{path}.Goals.{{{f.names[places[0]]}}}")
+        answers.append("\n".join(notes + [body2]))
+    module = f"Rattle.{crate}.proofs.{path}"
+    uses = [u for u in uses if not u.startswith((f"use {module}.Statement", f"use {module}.Tie"))]
+    seen = []
+    for u in uses:
+        if u not in seen:
+            seen.append(u)
+    uses = seen
+    says = [c for c in comment if not re.match(r"-- Assumes nothing", c)]
+    own = {}
+    for a in answers:
+        m = re.search(r"(?m)^(?:abbrev )?(?:pub )?(" + NAME + r")(?: \{[^}]*\})* :", a)
+        if m and not re.match(r"pub \S+ : goal\.", a.split("\n")[0]):
+            own[m[1]] = a
+    text = "\n\n".join(invariants)
+    moved = []
+    grew = True
+    while grew:
+        grew = False
+        for name, a in own.items():
+            if a not in moved and re.search(r"(?<![^\s(){}.;,])" + re.escape(name) + r"(?![^\s(){}.;,])", text + "\n".join(moved)):
+                moved.append(a)
+                grew = True
+    if invariants:
+        keep = [a for a in answers if a in moved]
+        answers = [a for a in answers if a not in moved]
+        keep = [re.sub(r"(?m)^(abbrev )?(?!pub |abbrev |--)(" + NAME + r" :)", lambda m: (m[1] or "") + "pub " + m[2], a, count=1) if not re.search(r"(?m)^(abbrev )?pub ", a) else a for a in keep]
+        with open(os.path.join(folder, "Invariants.antt"), "w", encoding="utf-8") as it:
+            it.write("\n".join(says + uses + [f"use {module}.Given as goal"]) + "\n\n" + "\n\n".join(keep + invariants) + "\n")
+        if keep and answers:
+            names = [re.search(r"(?m)^(?:abbrev )?pub (" + NAME + r")", a)[1] for a in keep]
+            uses.append(f"use {module}.Invariants.{{{', '.join(names)}}}")
+    answers = [a for a in answers if a.strip()]
+    uses += [u for k, u in enumerate(over) if u not in over[:k]]
+    if answers:
+        with open(os.path.join(folder, "Answers.antt"), "w", encoding="utf-8") as it:
+            it.write("\n".join(says + uses + [f"use {module}.Goals as goal"]) + "\n\n" + "\n\n".join(answers) + "\n")
+    os.remove(os.path.join(folder, "Proof.antt"))
+    if not os.listdir(folder):
+        os.rmdir(folder)
+    for it in f.left:
+        print(f"left: {crate} {path}: {it}")
+
+
+def turn(crate):
+    with tempfile.TemporaryDirectory() as room:
+        said = subprocess.run(
+            ["rt", "check", "--generated", room, "--old-names"], cwd=f"crates/{crate}", capture_output=True, text=True
+        )
+        names = os.path.join(room, "names.json")
+        if not os.path.exists(names):
+            print(f"left: {crate}: the prover told no names: {(said.stdout + said.stderr)[-1500:]}")
+            return
+        with open(names, encoding="utf-8") as f:
+            told = json.load(f)
+    if "--keep-names" in sys.argv:
+        json.dump(told, open(f"/tmp/names-{crate}.json", "w"))
+    done = 0
+    for folder, _, found in sorted(os.walk(f"crates/{crate}/proofs")):
+        if "Proof.antt" not in found or "/+" in folder:
+            continue
+        path = os.path.relpath(folder, f"crates/{crate}/proofs").replace("/", ".")
+        key = f"Rattle-{crate}-proofs.{path}.Lts"
+        if key not in told:
+            print(f"left: {crate} {path}: not among the functions told")
+            continue
+        try:
+            convert(crate, folder, path, told[key])
+            done += 1
+        except Exception as e:  # the file stays, to be turned by hand
+            print(f"left: {crate} {path}: {type(e).__name__} {e}")
+    print(f"{crate}: {done} functions turned")
+
+
+if __name__ == "__main__":
+    names = [a for a in sys.argv[1:] if not a.startswith("--")]
+    if not names:
+        raise SystemExit(__doc__)
+    for name in names:
+        turn(name)
