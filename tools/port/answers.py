@@ -29,7 +29,7 @@ def bare_goal(name):
 class Function:
     def __init__(self, crate, path, told):
         self.crate, self.path, self.told = crate, path, told
-        self.left = []
+        self.left, self.negated = [], False
         self.places = told["places"]
         self.by_old = {norm(p[0]): k for k, p in enumerate(self.places)}
         self.names = told["places_by_name"]
@@ -127,8 +127,12 @@ class Function:
                 return whole(at)
             return ".".join([var] + self.step(place, at, fields))
 
-        # what is known of `!x` speaks of x itself now
-        return re.sub(r"\bnot-(?:true|false) (?:_|c\.[^\s()]+) (c\.[^\s()]*)", r"\1", PATH.sub(one, text))
+        # what is known of `!x` speaks of x itself now: a lemma that turned it goes, and what took it as it was takes it turned
+        text = PATH.sub(one, text)
+        text = re.sub(r"\bnot-(?:true|false) (?:_|c\.[^\s()]+) (c\.[^\s()]*)", r"\1⟪direct⟫", text)
+        turned = re.sub(r"(?<![^\s(){};,])(c\.(?:if|loop)-not-[^\s(){};,.]*\.(?:true|false))(?!⟪|[^\s(){};,])", r"(ap not \1)", text)
+        self.negated = self.negated or turned != text
+        return turned.replace("⟪direct⟫", "")
 
 
 def blocks(text):
@@ -262,6 +266,9 @@ def convert(crate, folder, path, told):
             uses.append(f"use {module}.Invariants.{{{', '.join(names)}}}")
     answers = [a for a in answers if a.strip()]
     uses += [u for k, u in enumerate(over) if u not in over[:k]]
+    if f.negated:
+        known = set(re.findall(NAME, " ".join(re.findall(r"\{([^}]*)\}", "\n".join(uses)))))
+        uses += [f"use Rattle.std.proofs.Common.{{{name}}}" for name in ("ap", "not") if name not in known]
     if answers:
         with open(os.path.join(folder, "Answers.antt"), "w", encoding="utf-8") as it:
             it.write("\n".join(says + uses + [f"use {module}.Goals as goal"]) + "\n\n" + "\n\n".join(answers) + "\n")

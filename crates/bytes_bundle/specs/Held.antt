@@ -99,8 +99,8 @@ left = record { is = λ vs h. refl }
 
 module _ {A B : Type 0} {w : ℕ} {f : Format A} {F : ℕ → List A → B} {s : List ℕ} {i : ℕ} (k : LeftBy w f F s i) where
   module _ {at e : ℕ} (d : Stepped w s i at e) where
-    pub left_turn : (vs : List A) (h : Holds (list_of w f) s vs) → F 0 vs ≡ F i ((turn d h).value ∷ drop (i + 1) vs)
-    left_turn vs h = k.is vs h ∙ ap (F i) (turn d h).rest
+    pub left_turn : (vs : List A) (h : Holds (list_of w f) s vs) → F 0 vs ≡ F i ((turn {f = f} d h).value ∷ drop (i + 1) vs)
+    left_turn vs h = k.is vs h ∙ ap (F i) (turn {f = f} d h).rest
 
     -- a value that is passed, and one that decides
     pub left_on : ((v : A) (l : List A) → Holds f (take (e - at) (drop at s)) v → F i (v ∷ l) ≡ F (i + 1) l) → LeftBy w f F s (i + 1)

@@ -1,20 +1,16 @@
 -- `text_numbers::digits_literal` meets its contract. The invariant: the digits that are left, behind the size so far, make a number that is in the
 -- range where the whole is, and is the whole then.
 use mathlib.Core.Path.{◌≡◌, refl, sym, ap, ◌∙◌}
-use mathlib.Core.Logic.{⊎_elim}
-use Prim.Native.Nat.{◌≤◌, ◌-◌}
 use native.Mathlib.Omega.{arith}
-use lib.ListN.{length, drop}
 use mir.Syntax.{w64}
 use mir.Val.{SFits}
 use mir.Facts.{to_z-of_z}
 use borrow.Author.Rules.{rules}
-use Rattle.rules.specs.Lists.{all}
-use Rattle.rules.specs.Numbers.{is_digit}
 use Rattle.text_numbers.specs.Literal.{told, digits_literal}
-use Rattle.text_numbers.proofs.Laws.{number, low, high, digit, count, stay, empty, bad, retold, done}
+use Rattle.text_numbers.proofs.Laws.{low, high, digit, count, stay, empty, bad, retold, done}
 use Rattle.text_numbers.proofs.digits_literal.Goals.{After-made}
 use Rattle.text_numbers.proofs.digits_literal.Goals as goal
+use Rattle.text_numbers.proofs.digits_literal.Goals.{then-v-gt922337203685477580, else-v-gt922337203685477580}
 
 pub returns-then-digits-eq0 : goal.returns-then-digits-eq0
 returns-then-digits-eq0 c = ap told (empty c.args.minus c.args.digits.now c.if-digits-eq0.true)
@@ -43,9 +39,10 @@ loop-i-preserved c =
     let i = c.loop-i.i in
     let h = c.loop-i-test.true in
     let d = digit s i h c.if-b-lt48.false c.if-b-gt57.false ∙ c.loop-i.invariant.2 in
-    ⊎_elim
-    (λ w. (search rules, omega (arith, w.1), d, rw w.1 (stay s i h a.minus c.loop-i.v 9223372036854775809 w.0.taken (omega arith)) ∙ c.loop-i.invariant.3))
-    (λ w. (search rules, omega (arith, w.1), d, rw w.1 (count s i h a.minus c.loop-i.v) ∙ c.loop-i.invariant.3)) c.if-v-gt922337203685477580.branch
+    elim c.if-v-gt922337203685477580.branch [
+      then-v-gt922337203685477580 w ↦ (search rules, omega (arith, w.v-is), d, rw w.v-is (stay s i h a.minus c.loop-i.v 9223372036854775809 w.if-v-gt922337203685477580.true (omega arith)) ∙ c.loop-i.invariant.3)
+    | else-v-gt922337203685477580 w ↦ (search rules, omega (arith, w.v-is), d, rw w.v-is (count s i h a.minus c.loop-i.v) ∙ c.loop-i.invariant.3)
+    ]
 
 made-done : (c : After-made) → retold c.made.result
     ≡ told (digits_literal c.args.minus c.args.digits.now)

@@ -1,18 +1,11 @@
 -- `text_numbers::digits_literal` meets its contract. The invariant: the digits that are left, behind the size so far, make a number that is in the
 -- range where the whole is, and is the whole then.
-use mathlib.Core.Path.{◌≡◌, refl, sym, ap, ◌∙◌}
-use mathlib.Core.Logic.{⊎_elim}
+use mathlib.Core.Path.{◌≡◌}
 use Prim.Native.Nat.{◌≤◌, ◌-◌}
-use native.Mathlib.Omega.{arith}
 use lib.ListN.{length, drop}
-use mir.Syntax.{w64}
-use mir.Val.{SFits}
-use mir.Facts.{to_z-of_z}
-use borrow.Author.Rules.{rules}
 use Rattle.rules.specs.Lists.{all}
 use Rattle.rules.specs.Numbers.{is_digit}
-use Rattle.text_numbers.specs.Literal.{told, digits_literal}
-use Rattle.text_numbers.proofs.Laws.{number, low, high, digit, count, stay, empty, bad, retold, done}
+use Rattle.text_numbers.proofs.Laws.{number}
 use Rattle.text_numbers.proofs.digits_literal.Given as goal
 
 abbrev pub invariant-loop-i : goal.invariant-loop-i

@@ -2,7 +2,6 @@
 use mathlib.Core.Path.{ap, ◌∙◌}
 use Rattle.text_numbers.specs.Literal.{told}
 use Rattle.text_numbers.proofs.Laws.{no_text, plus_first, minus_first, digit_first}
-use borrow.Author.Rules.{rules}
 use Rattle.text_numbers.proofs.integer_literal.Goals as goal
 
 pub returns-then-s-eq0 : goal.returns-then-s-eq0

@@ -1,6 +1,5 @@
 -- `text_trim::back` meets its contract.
 use mathlib.Core.Path.{subst}
-use borrow.Author.Rules.{rules}
 use Rattle.text_trim.specs.Plain.{Plain}
 use Rattle.text_trim.proofs.Laws.{plain_back}
 use Rattle.text_trim.proofs.back.Goals as goal

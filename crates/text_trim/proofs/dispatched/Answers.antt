@@ -1,7 +1,6 @@
 -- `text_trim::dispatched` meets its contract.
 use mathlib.Core.Path.{ap, ◌∙◌}
 use Rattle.rules.specs.Trimmed.{trimmed, without_semicolon, dispatched}
-use borrow.Author.Rules.{rules}
 use Rattle.text_trim.proofs.dispatched.Goals as goal
 
 pub returns : goal.returns

@@ -1,6 +1,5 @@
 -- `text_trim::front` meets its contract.
 use mathlib.Core.Path.{subst}
-use borrow.Author.Rules.{rules}
 use Rattle.text_trim.specs.Plain.{Plain}
 use Rattle.text_trim.proofs.Laws.{plain_front}
 use Rattle.text_trim.proofs.front.Goals as goal

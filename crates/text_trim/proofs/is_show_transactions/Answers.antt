@@ -4,7 +4,6 @@ use mathlib.Core.List.{map}
 use Rattle.rules.specs.Lists.{Text, ascii, same}
 use Rattle.rules.specs.Names.{fold}
 use Rattle.rules.specs.Trimmed.{is_show_transactions}
-use borrow.Author.Rules.{rules}
 use Rattle.text_trim.proofs.is_show_transactions.Goals as goal
 
 pub returns : goal.returns

@@ -1,17 +1,14 @@
 -- `text_trim::is_white` meets its contract. The invariant: c is white space where it lies in a range from i on.
 use mathlib.Core.Path.{◌≡◌, ◌∙◌}
-use mathlib.Core.Logic.{⊎_elim}
 use mathlib.Core.Bool.{false}
-use mathlib.Core.List.{List, map}
-use Prim.Native.Nat.{ℕ, ◌≤◌, ◌-◌}
+use Prim.Native.Nat.{ℕ, ◌≤◌}
 use lib.ListN.{drop, drop_of_length-le}
 use borrow.Author.Rules.{rules}
-use Rattle.rules.specs.Trimmed
-use Rattle.rules.specs.Trimmed.{white_space, within, white}
-use Rattle.text_trim.specs.declared.Range.{Range}
+use Rattle.rules.specs.Trimmed.{within}
 use Rattle.text_trim.proofs.Laws.{inside, hit, below, above}
-use Rattle.text_trim.proofs.is_white.Invariants.{had, ranges}
+use Rattle.text_trim.proofs.is_white.Invariants.{ranges}
 use Rattle.text_trim.proofs.is_white.Goals as goal
+use Rattle.text_trim.proofs.is_white.Goals.{then-r-c+else-c-r, else-r-c}
 
 none : (c i : ℕ) → 10 ≤ i → false ≡ inside (drop i ranges) c
 unfolding within
@@ -27,8 +24,10 @@ pub loop-i-preserved : goal.loop-i-preserved
 loop-i-preserved c =
     let t = c.loop-i-test.true in (
       search rules,
-      ⊎_elim (λ w. above ranges c.args.c c.loop-i.i _ t w.2.left)
-          (λ w. below ranges c.args.c c.loop-i.i _ t w.left) c.if-r-c.branch
+      elim c.if-r-c.branch [
+        then-r-c+else-c-r w ↦ above ranges c.args.c c.loop-i.i _ t w.if-c-r.false
+      | else-r-c w ↦ below ranges c.args.c c.loop-i.i _ t w.if-r-c.false
+      ]
           ∙ c.loop-i.invariant.1,
     )
 

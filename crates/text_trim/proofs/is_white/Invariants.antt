@@ -1,15 +1,12 @@
 -- `text_trim::is_white` meets its contract. The invariant: c is white space where it lies in a range from i on.
-use mathlib.Core.Path.{◌≡◌, ◌∙◌}
-use mathlib.Core.Logic.{⊎_elim}
-use mathlib.Core.Bool.{false}
+use mathlib.Core.Path.{◌≡◌}
 use mathlib.Core.List.{List, map}
-use Prim.Native.Nat.{ℕ, ◌≤◌, ◌-◌}
-use lib.ListN.{drop, drop_of_length-le}
-use borrow.Author.Rules.{rules}
+use Prim.Native.Nat.{◌≤◌, ◌-◌}
+use lib.ListN.{drop}
 use Rattle.rules.specs.Trimmed
 use Rattle.rules.specs.Trimmed.{white_space, within, white}
 use Rattle.text_trim.specs.declared.Range.{Range}
-use Rattle.text_trim.proofs.Laws.{inside, hit, below, above}
+use Rattle.text_trim.proofs.Laws.{inside}
 use Rattle.text_trim.proofs.is_white.Given as goal
 
 -- the rules' table, as the code has it

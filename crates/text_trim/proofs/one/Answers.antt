@@ -1,7 +1,6 @@
 -- `text_trim::one` meets its contract.
 use borrow.Author.Tests.{lt-ltb, le-ltb}
 use Rattle.rules.specs.Trimmed.{white1}
-use borrow.Author.Rules.{rules}
 use Rattle.text_trim.proofs.one.Goals as goal
 
 pub returns-then-a-lt128 : goal.returns-then-a-lt128

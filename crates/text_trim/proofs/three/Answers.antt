@@ -1,7 +1,6 @@
 -- `text_trim::three` meets its contract: each test that was passed is one of the definition's.
 use borrow.Author.Tests.{lt-leb, le-leb, lt-ltb, le-ltb}
 use Rattle.rules.specs.Trimmed.{white3}
-use borrow.Author.Rules.{rules}
 use Rattle.text_trim.proofs.three.Goals as goal
 
 pub returns-then-b-lt128 : goal.returns-then-b-lt128

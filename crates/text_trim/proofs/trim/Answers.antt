@@ -1,7 +1,6 @@
 -- `text_trim::trim` meets its contract.
 use mathlib.Core.Path.{◌∙◌, ap}
 use Rattle.rules.specs.Trimmed.{trimmed_back}
-use borrow.Author.Rules.{rules}
 use Rattle.text_trim.proofs.trim.Goals as goal
 
 pub returns : goal.returns

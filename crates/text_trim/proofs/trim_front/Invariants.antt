@@ -1,8 +1,6 @@
 -- `text_trim::trim_front` meets its contract. The invariant: what is to be taken off of the text is to be taken off of what is left.
-use native.Mathlib.Omega.{arith}
 use lib.ListN.{length}
-use borrow.Author.Rules.{rules}
-use Rattle.text_trim.proofs.Laws.{front_le, front_end, LeftAt, left_all, end_shorter, end_cut, end_done}
+use Rattle.text_trim.proofs.Laws.{front_end, LeftAt}
 use Rattle.text_trim.proofs.trim_front.Given as goal
 
 abbrev pub invariant-loop-n : goal.invariant-loop-n

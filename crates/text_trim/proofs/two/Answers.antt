@@ -1,7 +1,6 @@
 -- `text_trim::two` meets its contract: each test that was passed is one of the definition's.
 use borrow.Author.Tests.{lt-leb, le-leb, lt-ltb, le-ltb}
 use Rattle.rules.specs.Trimmed.{white2}
-use borrow.Author.Rules.{rules}
 use Rattle.text_trim.proofs.two.Goals as goal
 
 pub returns-then-b-lt128 : goal.returns-then-b-lt128
