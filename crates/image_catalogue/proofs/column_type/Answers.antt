@@ -1,0 +1,30 @@
+-- `image_catalogue::column_type` meets its contract.
+use borrow.Author.Rules.{rules}
+use mathlib.Core.Path.{sym, ap, ◌∙◌}
+use mathlib.Core.List.{List}
+use Prim.Native.Nat.{ℕ}
+use native.Mathlib.Omega.{arith}
+use lib.ListN.{length, get_or}
+use Rattle.image_catalogue.specs.Values.{column_shape, column_held, type_int, type_text, type_bool}
+use Rattle.image_catalogue.proofs.column_type.Goals as goal
+
+pub part-numbers-requires : goal.part-numbers-requires
+part-numbers-requires c = let r = (column_shape c.requires).shape in search rules
+
+-- the code
+abbrev code : List ℕ → ℕ
+code p = get_or p 8 0
+
+pub bounds-numbers-8 : goal.bounds-numbers-8
+bounds-numbers-8 c = omega (arith, ap length c.part-numbers.ensures, (column_shape c.requires).wide)
+
+pub returns-then-code-eq0 : goal.returns-then-code-eq0
+returns-then-code-eq0 c = λ v h. type_int _ (column_held h).ty (sym (ap code c.part-numbers.ensures) ∙ c.if-code-eq0.true)
+
+pub returns-then-code-eq1 : goal.returns-then-code-eq1
+returns-then-code-eq1 c = λ v h. type_text _ (column_held h).ty (sym (ap code c.part-numbers.ensures) ∙ c.if-code-eq1.true)
+
+pub returns : goal.returns
+returns c = λ v h.
+    let e = ap code c.part-numbers.ensures in
+    type_bool _ (column_held h).ty (λ z. c.if-code-eq0.false (e ∙ z)) (λ z. c.if-code-eq1.false (e ∙ z))
