@@ -31,7 +31,7 @@ use Rattle.rules.specs.Answers.{Answer, given, refused, refuse, refuse_if, found
 use Rattle.rules.specs.Names.{canonical, simple_name}
 use Rattle.rules.specs.Tables.{Catalogue, table_by_name}
 use Rattle.rules.specs.Statements.{ObjectName, plain, qualified, ColumnDefinition, CreateTable}
-use Rattle.rules.specs.Theorems.Answered.{never_given, bind_given}
+use Rattle.rules.proofs.Theorems.Answered.{never_given, bind_given}
 use Rattle.rules.specs.Analyze.{define_columns, constraints, key_ids, analyze_create_table}
 use Rattle.image_parts.specs.Layout.{name, column_definition, create}
 use Rattle.bind_create.specs.declared.Key.{Key}

@@ -13,7 +13,7 @@ use Rattle.rules.specs.declared.Class.TheVariants.{ConstraintViolation, Unsuppor
 use Rattle.rules.specs.Lists.{Text, same, any}
 use Rattle.rules.specs.Names.{canonical}
 use Rattle.rules.specs.Tables.{ColumnSchema, column_named}
-use Rattle.rules.specs.Theorems.Answered.{never_given, bind_given}
+use Rattle.rules.proofs.Theorems.Answered.{never_given, bind_given}
 use Rattle.rules.specs.Answers.{Answer, given, refuse, refuse_if, ◌>>=◌, ◌>>◌}
 use Rattle.rules.specs.Statements.{ColumnDefinition}
 use Rattle.rules.specs.Analyze.{no_options, options, Definition, define_columns}

@@ -12,7 +12,7 @@ use Rattle.rules.specs.Answers.{Answer, given, refused, refuse_if, found, ◌>>=
 use Rattle.rules.specs.Tables.{ColumnSchema, Catalogue, same_id, column_named}
 use Rattle.rules.specs.Statements.{ColumnType, known, other_type, ColumnOption, ColumnDefinition, CreateTable}
 use Rattle.rules.specs.Names.{canonical}
-use Rattle.rules.specs.Theorems.Answered.{never_given, bind_given}
+use Rattle.rules.proofs.Theorems.Answered.{never_given, bind_given}
 use Rattle.rules.specs.Bound.{BoundStatement, bound_create_table}
 use Rattle.rules.specs.Analyze.{
   OptionState,

@@ -10,7 +10,7 @@ use Rattle.rules.specs.Tables.{ColumnSchema, column_named}
 use Rattle.rules.specs.Names.{canonical}
 use Rattle.rules.specs.Statements.{Name, ColumnDefinition, Constraint, primary_key, other_constraint, CreateTable}
 use Rattle.rules.specs.Analyze.{Definition, define_columns, constraints}
-use Rattle.rules.specs.Theorems.Answered.{mapped}
+use Rattle.rules.proofs.Theorems.Answered.{mapped}
 use Rattle.bind_table.specs.declared.Measured.{Measured}
 use Rattle.bind_table.specs.Told.{told}
 use Rattle.bind_create.specs.Defined.{schema, schemas, definition}

@@ -14,7 +14,7 @@ use Rattle.rules.specs.Bound.{BoundLeaf, BoundUnary, BoundExpr, mark_of}
 use Rattle.rules.specs.Lookup.{mark}
 use Rattle.rules.specs.Marking.{with, typed, unary_rule, binary_rule, bound_leaf, bound_unary, bound_binary}
 use Rattle.rules.specs.Statements.{Unary, parentheses, null_test, unary, other_unary, Binary, binary, other_binary}
-use Rattle.rules.specs.Theorems.Answered.{mapped}
+use Rattle.rules.proofs.Theorems.Answered.{mapped}
 use Rattle.bind_operators.specs.declared.Entry.{Entry}
 use Rattle.bind_operators.specs.declared.Entry.TheVariants as entry
 use Rattle.bind_operators.specs.Told as operators

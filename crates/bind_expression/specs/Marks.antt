@@ -9,7 +9,7 @@ use Rattle.rules.specs.Bound.{BoundExpr, mark_of}
 use Rattle.rules.specs.Marking.{bind_expression}
 use Rattle.rules.specs.Statements.{Expr}
 use Rattle.rules.specs.Tables.{TableSchema}
-use Rattle.rules.specs.Theorems.Answered.{mapped}
+use Rattle.rules.proofs.Theorems.Answered.{mapped}
 use Rattle.image_catalogue.specs.Layout.{table}
 use Rattle.image_expression.specs.Expression.{expression}
 use Rattle.image_expression.specs.Place.{node_count, node_at, Root, HasNode}

@@ -9,7 +9,7 @@ use Rattle.rules.specs.declared.ExpressionType.{ExpressionType}
 use Rattle.rules.specs.declared.ExpressionType.TheVariants as type
 use Rattle.rules.specs.declared.BoundBinaryOperator.{BoundBinaryOperator}
 use Rattle.rules.specs.Marking.{operators, operator_no, types, type_no, operator_rule}
-use Rattle.rules.specs.Theorems.Table.{operator_found}
+use Rattle.rules.proofs.Theorems.Table.{operator_found}
 use Rattle.bind_operators.specs.Codes.{code_of}
 
 map_at : {A B : Type 0} (f : A → B) (l : List A) (k : ℕ) (d : B) (x : A) → get_elem? l k ≡ some x → get_or (map f l) k d ≡ f x

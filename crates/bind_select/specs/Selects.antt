@@ -26,7 +26,7 @@ use Rattle.rules.specs.Lookup.{bound_table, bound_columns, column_by_name}
 use Rattle.rules.specs.Names.{canonical}
 use Rattle.rules.specs.Statements.{Name, TableWithJoins, Item, star, column, other_item, From, one, not_one, Select, QueryBody, plain_select, not_plain, Query, Expr}
 use Rattle.rules.specs.Tables.{TableSchema, Catalogue}
-use Rattle.rules.specs.Theorems.Answered.{mapped}
+use Rattle.rules.proofs.Theorems.Answered.{mapped}
 use Rattle.bind_select.specs.Entries.{entries, no_entries, entries_append, list_entries}
 
 -- ---- the table

@@ -23,8 +23,8 @@ use Rattle.rules.specs.Names.{canonical, simple_name}
 use Rattle.rules.specs.Statements.{ObjectName, plain, qualified, Relation, direct, indirect, TableWithJoins}
 use Rattle.rules.specs.Tables.{TableSchema, Catalogue, table_named, table_by_name, sound_table, sound}
 use Rattle.rules.specs.Analyze.{relation_name, resolve_direct_table}
-use Rattle.rules.specs.Theorems.Answered.{never_given}
-use Rattle.rules.specs.Theorems.Steps.{step, step_past}
+use Rattle.rules.proofs.Theorems.Answered.{never_given}
+use Rattle.rules.proofs.Theorems.Steps.{step, step_past}
 use Rattle.bind_table.specs.Short.{short_plain}
 use Rattle.bind_table.specs.Tables.{named_table, canonical_length}
 

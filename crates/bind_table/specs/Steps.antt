@@ -14,7 +14,7 @@ use Rattle.rules.specs.declared.Class.{Class}
 use Rattle.rules.specs.declared.Refusal.{Refusal}
 use Rattle.rules.specs.Answers.{Answer, given, refused, refuse_if, found, ◌>>=◌, ◌>>◌, Verdict, fine, flaw, judged}
 use Rattle.rules.specs.Tables.{TableSchema}
-use Rattle.rules.specs.Theorems.Answered.{mapped}
+use Rattle.rules.proofs.Theorems.Answered.{mapped}
 use Rattle.bind_table.specs.declared.Measured.{Measured}
 use Rattle.bind_table.specs.declared.Measured.TheVariants as measured
 use Rattle.bind_table.specs.declared.Resolved.{Resolved}

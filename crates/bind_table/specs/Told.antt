@@ -6,7 +6,7 @@ use Rattle.image_catalogue.specs.Layout.{table}
 use Rattle.catalogue_lookup.specs.Finds.{LiesAs}
 use Rattle.rules.specs.Answers.{Answer, given, refused}
 use Rattle.rules.specs.Tables.{TableSchema}
-use Rattle.rules.specs.Theorems.Answered.{mapped}
+use Rattle.rules.proofs.Theorems.Answered.{mapped}
 use Rattle.bind_table.specs.declared.Measured.{Measured}
 use Rattle.bind_table.specs.declared.Measured.TheVariants as measured
 use Rattle.bind_table.specs.declared.Resolved.{Resolved}

@@ -26,7 +26,7 @@ use Rattle.rules.specs.Lookup.{column_by_name, in_key}
 use Rattle.rules.specs.Marking.{bind_expression}
 use Rattle.rules.specs.Statements.{Assignment, Expr}
 use Rattle.rules.specs.Tables.{TableSchema, same_id, sound_table}
-use Rattle.rules.specs.Theorems.Steps.{step, step_past}
+use Rattle.rules.proofs.Theorems.Steps.{step, step_past}
 use Rattle.bind_update.specs.Columns.{columns_told}
 use Rattle.bind_update.specs.Targets.{target_column, column_named_lem, fitting_value}
 

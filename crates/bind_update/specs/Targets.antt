@@ -26,7 +26,7 @@ use Rattle.rules.specs.Marking.{bind_expression}
 use Rattle.rules.specs.Names.{canonical, simple_name}
 use Rattle.rules.specs.Statements.{ObjectName, plain, qualified, Target, target, tuple, Expr}
 use Rattle.rules.specs.Tables.{TableSchema}
-use Rattle.rules.specs.Theorems.Answered.{never_given}
+use Rattle.rules.proofs.Theorems.Answered.{never_given}
 use Rattle.bind_update.specs.declared.Targeted.{Targeted}
 use Rattle.bind_update.specs.declared.Targeted.TheVariants as targeted
 

@@ -11,7 +11,7 @@ use Rattle.rules.specs.Fits.{is_condition, bind_boolean_filter}
 use Rattle.rules.specs.Marking.{bind_expression}
 use Rattle.rules.specs.Statements.{Expr}
 use Rattle.rules.specs.Tables.{TableSchema}
-use Rattle.rules.specs.Theorems.Answered.{bind_given}
+use Rattle.rules.proofs.Theorems.Answered.{bind_given}
 
 module _ (v : TableSchema) (x : Expr) where
   pub filter_off : {r : Refusal} → bind_expression v x ≡ refused r → bind_boolean_filter v x ≡ refused r

@@ -11,7 +11,7 @@ use Rattle.rules.specs.declared.BoundBinaryOperator.{BoundBinaryOperator}
 use Rattle.rules.specs.declared.BoundBinaryOperator.TheVariants as op
 use Rattle.rules.specs.Lists.{Text}
 use Rattle.rules.specs.Marking.{operator_no}
-use Rattle.rules.specs.Theorems.Table.{operator_found}
+use Rattle.rules.proofs.Theorems.Table.{operator_found}
 use Rattle.rules.specs.Statements.{Leaf, Unary, parentheses, null_test, unary, other_unary, Binary, binary, other_binary}
 use Rattle.image_expression.specs.Expression.{name_of, leaf_codes, unary_codes, binary_codes}
 use Rattle.image_expression.specs.Place.{name_kind, truth_kind, leaf_kind, leaf_text, un_kind, bin_kind, leaf_of, un_of, bin_of}

@@ -14,7 +14,7 @@ use Rattle.rules.specs.declared.ExpressionType.{ExpressionType}
 use Rattle.rules.specs.declared.ExpressionType.TheVariants as type
 use Rattle.rules.specs.declared.BoundBinaryOperator.{BoundBinaryOperator}
 use Rattle.rules.specs.Marking.{types, type_no, operators, operator_no}
-use Rattle.rules.specs.Theorems.Table.{operator_found}
+use Rattle.rules.proofs.Theorems.Table.{operator_found}
 use Rattle.rules.specs.Tables.{ColumnSchema}
 use Rattle.rules.specs.Bound.{Value}
 

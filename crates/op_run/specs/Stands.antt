@@ -19,8 +19,8 @@ use Rattle.rules.specs.Limits.{at_most, name_within, table_within, statement_wit
 use Rattle.rules.specs.Lists.{Text, all}
 use Rattle.rules.specs.Statements.{TableWithJoins, Update, Kind, update, Statement}
 use Rattle.rules.specs.Tables.{ColumnSchema, TableSchema, Catalogue, table_named, table_by_name}
-use Rattle.rules.specs.Theorems.Answered.{never_given}
-use Rattle.rules.specs.Theorems.Steps.{step, step_past, never_answers}
+use Rattle.rules.proofs.Theorems.Answered.{never_given}
+use Rattle.rules.proofs.Theorems.Steps.{step, step_past, never_answers}
 use Rattle.image_parts.specs.Layout as statement-layout
 use Rattle.image_parts.specs.Layout.{updating, statement}
 use Rattle.bind_statement.specs.Dispatch.{update_limited}

@@ -10,8 +10,8 @@ use Rattle.rules.specs.Rows.{Row, row_obeys}
 use Rattle.rules.specs.Evaluate.{worked, fault, update_row}
 use Rattle.rules.specs.Heard.{Outcome, refuses, answers, next, ran_statement, bind_outcome, run_outcome}
 use Rattle.rules.specs.Demand.{Answers, Room}
-use Rattle.rules.specs.Theorems.Demand.{demand}
-use Rattle.rules.specs.Theorems.Steps.{never_answers}
+use Rattle.rules.proofs.Theorems.Demand.{demand}
+use Rattle.rules.proofs.Theorems.Steps.{never_answers}
 use Rattle.image_row.specs.Layout as row
 use Rattle.image_bound.specs.Layout as bound
 use Rattle.op_received.specs.Entry.{bound_size, row_size, bind_bytes, run_bytes}

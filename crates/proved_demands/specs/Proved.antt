@@ -9,7 +9,7 @@ use Rattle.rules.specs.Obeys.{UpdateObeys}
 use Rattle.rules.specs.Rows.{Row, row_obeys}
 use Rattle.rules.specs.Statements.{Expr, Update}
 use Rattle.rules.specs.Tables.{TableSchema}
-use Rattle.rules.specs.Theorems.Demand.{demand}
+use Rattle.rules.proofs.Theorems.Demand.{demand}
 use Rattle.image_row.specs.Layout as row
 use Rattle.op_reply.specs.declared.Reply.{Reply}
 use Rattle.proved_demands.specs.Answered.{answers_exactly, Faults, Comes, faults_or_comes}

@@ -5,7 +5,7 @@ use Rattle.std.proofs.Math.Option.{some}
 use Rattle.rules.specs.Lists.{ascii}
 use Rattle.rules.specs.Bound.{int, text, bool, null}
 use Rattle.rules.specs.Heard.{refuses, answers}
-use Rattle.rules.specs.Theorems.Runs.{runs}
+use Rattle.rules.proofs.Theorems.Runs.{runs}
 use Rattle.tree.specs.Tree as tree-tree
 use Rattle.bytes_utf8.specs.Decide as utf8-decide
 use Rattle.rules.specs.Analyze as rules-analyze

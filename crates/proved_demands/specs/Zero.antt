@@ -13,7 +13,7 @@ use Rattle.rules.specs.Analyze.{analyze}
 use Rattle.rules.specs.Limits.{statement_within, catalogue_within, names_beyond_ascii}
 use Rattle.rules.specs.Heard.{Outcome, refuses, answers, Read, next, class_no, heard, received, judged_statement, fitted, bind_outcome}
 use Rattle.rules.specs.Demand.{Answers}
-use Rattle.rules.specs.Theorems.Steps.{never_answers}
+use Rattle.rules.proofs.Theorems.Steps.{never_answers}
 use Rattle.op_reply.specs.Leaves.{refusal}
 use Rattle.op_received.specs.Entry.{read_statement, read_catalogue, bound_size, bind_bytes}
 use Rattle.op_put.specs.Binds.{bytes_of}

@@ -17,9 +17,9 @@ use Rattle.rules.specs.Bound.{BoundStatement, bound_show_transactions}
 use Rattle.rules.specs.Trimmed.{is_show_transactions}
 use Rattle.rules.specs.Analyze.{analyze_kind, analyze}
 use Rattle.rules.specs.Heard.{answers, received, judged_statement, bind_outcome}
-use Rattle.rules.specs.Theorems.Answered.{never_given}
-use Rattle.rules.specs.Theorems.Steps.{step_past, heard_answers}
-use Rattle.rules.specs.Theorems.Stages.{next_answers}
+use Rattle.rules.proofs.Theorems.Answered.{never_given}
+use Rattle.rules.proofs.Theorems.Steps.{step_past, heard_answers}
+use Rattle.rules.proofs.Theorems.Stages.{next_answers}
 use Rattle.op_received.specs.Entry.{read_statement, read_catalogue, bound_size, bind_bytes}
 use Rattle.proved_readback.specs.Judging.{Judged, judged_of, answers_same, fitted_answers, kind_ok}
 use Rattle.proved_readback.specs.Lengths.{limit}

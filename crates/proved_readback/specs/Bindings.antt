@@ -46,9 +46,9 @@ use Rattle.rules.specs.Marking.{
   bind_expression,
 }
 use Rattle.rules.specs.Analyze.{relation_name, resolve_direct_table}
-use Rattle.rules.specs.Theorems.Answered.{bind_given, never_fine, never_given, never_some}
-use Rattle.rules.specs.Theorems.Steps.{step, step_past}
-use Rattle.rules.specs.Theorems.Values.{StandsAt, here, behind, column_of_lem}
+use Rattle.rules.proofs.Theorems.Answered.{bind_given, never_fine, never_given, never_some}
+use Rattle.rules.proofs.Theorems.Steps.{step, step_past}
+use Rattle.rules.proofs.Theorems.Values.{StandsAt, here, behind, column_of_lem}
 use Rattle.proved_readback.specs.Values.{node_labels}
 use Rattle.proved_readback.specs.Lengths.{limit, Fits}
 

@@ -36,8 +36,8 @@ use Rattle.rules.specs.Lookup.{column_by_name}
 use Rattle.rules.specs.Marking.{signed_number}
 use Rattle.rules.specs.Fits.{bind_boolean_filter}
 use Rattle.rules.specs.Analyze.{integer, insert_leaf, insert_signed, insert_literal, one_table, resolve_direct_table, item, projection, filter_if_there, plain_body, delete_from, analyze_insert, analyze_select, analyze_update, analyze_delete}
-use Rattle.rules.specs.Theorems.Answered.{never_given}
-use Rattle.rules.specs.Theorems.Steps.{step, step_found, step_past}
+use Rattle.rules.proofs.Theorems.Answered.{never_given}
+use Rattle.rules.proofs.Theorems.Steps.{step, step_found, step_past}
 use Rattle.proved_readback.specs.Values.{node_labels, short}
 use Rattle.proved_readback.specs.Lengths.{IfThere}
 use Rattle.proved_readback.specs.Bindings.{given_same, found_some, TableFine, found_fine, resolved_fine, table_ref_ok, named_ok, columns_ok, integer_ok, text_ok, bool_ok, null_ok, Sane, bound_sane}

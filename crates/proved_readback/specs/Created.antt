@@ -16,8 +16,8 @@ use Rattle.rules.specs.Statements.{ObjectName, plain, qualified, ColumnDefinitio
 use Rattle.rules.specs.Bound.{BoundStatement}
 use Rattle.rules.specs.Names.{canonical, simple_name}
 use Rattle.rules.specs.Analyze.{Definition, no_options, options, said_null, register_inline, data_type, column_of, define_column, define_columns, constraints, key_ids, outside_null, analyze_create_table}
-use Rattle.rules.specs.Theorems.Answered.{never_given}
-use Rattle.rules.specs.Theorems.Steps.{step, step_found, step_past}
+use Rattle.rules.proofs.Theorems.Answered.{never_given}
+use Rattle.rules.proofs.Theorems.Steps.{step, step_found, step_past}
 use Rattle.proved_readback.specs.Bindings.{given_same, find_every, ColumnFine}
 use Rattle.proved_readback.specs.Folding.{canonical_utf8}
 use Rattle.proved_readback.specs.Kinds.{IdFine, BoundSane}

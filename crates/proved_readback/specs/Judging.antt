@@ -8,9 +8,9 @@ use Rattle.image_catalogue.specs.Layout as catalogue
 use Rattle.rules.specs.Tables.{Catalogue}
 use Rattle.rules.specs.Statements.{Statement}
 use Rattle.rules.specs.Heard.{Outcome, refuses, answers, Read, received, fitted}
-use Rattle.rules.specs.Theorems.Answered.{never_some}
-use Rattle.rules.specs.Theorems.Steps.{never_answers}
-use Rattle.rules.specs.Theorems.Order.{received_clear}
+use Rattle.rules.proofs.Theorems.Answered.{never_some}
+use Rattle.rules.proofs.Theorems.Steps.{never_answers}
+use Rattle.rules.proofs.Theorems.Order.{received_clear}
 use Rattle.op_received.specs.Entry.{sized, read_statement, read_catalogue}
 
 -- ---- what was read

@@ -18,13 +18,13 @@ use Rattle.rules.specs.Rows.{Row, row_obeys}
 use Rattle.rules.specs.Evaluate.{Worked, worked, fault, no_rule, update_row}
 use Rattle.rules.specs.Trimmed.{is_show_transactions}
 use Rattle.rules.specs.Heard.{refuses, answers, heard, received, Running, update_of, runnable, asked, obeying, worked_out, ran_statement, run_outcome}
-use Rattle.rules.specs.Theorems.Answered.{never_some}
-use Rattle.rules.specs.Theorems.Steps.{never_answers, heard_answers}
-use Rattle.rules.specs.Theorems.Stages.{next_answers}
-use Rattle.rules.specs.Theorems.Order.{Obeying}
-use Rattle.rules.specs.Theorems.Update.{update_exactly}
-use Rattle.rules.specs.Theorems.Values.{comes_to}
-use Rattle.rules.specs.Theorems.Rows.{update_obeys}
+use Rattle.rules.proofs.Theorems.Answered.{never_some}
+use Rattle.rules.proofs.Theorems.Steps.{never_answers, heard_answers}
+use Rattle.rules.proofs.Theorems.Stages.{next_answers}
+use Rattle.rules.proofs.Theorems.Order.{Obeying}
+use Rattle.rules.proofs.Theorems.Update.{update_exactly}
+use Rattle.rules.proofs.Theorems.Values.{comes_to}
+use Rattle.rules.proofs.Theorems.Rows.{update_obeys}
 use Rattle.bind_statement.specs.Dispatch.{goes_by_kind, update_rule}
 use Rattle.write_update.specs.Given.{update_given}
 use Rattle.op_run.specs.Asked.{Dispatched, runnable_is}

@@ -56,8 +56,8 @@ use Rattle.rules.specs.Evaluate.{
   or_signed_value,
   evaluate,
 }
-use Rattle.rules.specs.Theorems.HasMark.{OfType, an_int, a_text, a_bool, HasMark, of_type, may_be_null_lem}
-use Rattle.rules.specs.Theorems.Values.{comes_to, value_has_mark}
+use Rattle.rules.proofs.Theorems.HasMark.{OfType, an_int, a_text, a_bool, HasMark, of_type, may_be_null_lem}
+use Rattle.rules.proofs.Theorems.Values.{comes_to, value_has_mark}
 
 -- ---- a value that can stand in a row's image
 

@@ -16,4 +16,3 @@ pub mod Evaluate
 pub mod Limits
 pub mod Heard
 pub mod Demand
-pub mod Theorems

@@ -23,8 +23,8 @@ use Rattle.rules.specs.Lists.{Text}
 use Rattle.rules.specs.Lookup.{bound_column, column_by_name}
 use Rattle.rules.specs.Rows.{Row}
 use Rattle.rules.specs.Tables.{ColumnSchema, TableSchema}
-use Rattle.rules.specs.Theorems.Values as values
-use Rattle.rules.specs.Theorems.Values.{column_of_lem}
+use Rattle.rules.proofs.Theorems.Values as values
+use Rattle.rules.proofs.Theorems.Values.{column_of_lem}
 use Rattle.run_values.specs.declared.Worth.{Worth}
 use Rattle.run_values.specs.declared.Worth.TheVariants as worth
 use Rattle.run_values.specs.Worths.{ordinal, told, plainly}

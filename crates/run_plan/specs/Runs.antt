@@ -27,8 +27,8 @@ use Rattle.rules.specs.Lookup.{bound_column, column_by_name}
 use Rattle.rules.specs.Rows.{Row, value_obeys, columns_obeyed, row_obeys}
 use Rattle.rules.specs.Statements.{Target, Assignment}
 use Rattle.rules.specs.Tables.{ColumnSchema, TableSchema}
-use Rattle.rules.specs.Theorems.Values as theorems
-use Rattle.rules.specs.Theorems.Values.{column_of_lem}
+use Rattle.rules.proofs.Theorems.Values as theorems
+use Rattle.rules.proofs.Theorems.Values.{column_of_lem}
 use Rattle.image_parts.specs.Layout.{assignment}
 use Rattle.bind_update.specs.Targets.{target_column, ColumnGiven}
 use Rattle.run_values.specs.declared.Worth.{Worth}

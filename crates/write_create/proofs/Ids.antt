@@ -22,7 +22,7 @@ use Rattle.rules.specs.Answers.{Answer, given, refuse_if, found, ◌>>◌}
 use Rattle.rules.specs.Names.{canonical}
 use Rattle.rules.specs.Tables.{ColumnSchema, same_id, column_named}
 use Rattle.rules.specs.Statements.{Name, ColumnDefinition}
-use Rattle.rules.specs.Theorems.Answered.{never_given, bind_given}
+use Rattle.rules.proofs.Theorems.Answered.{never_given, bind_given}
 use Rattle.rules.specs.Analyze.{key_ids}
 use Rattle.image_parts.specs.Layout.{name, column_definition}
 use Rattle.bind_create.specs.declared.Place.{Place}

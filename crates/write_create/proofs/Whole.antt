@@ -31,7 +31,7 @@ use Rattle.rules.specs.Tables.{ColumnSchema, Catalogue}
 use Rattle.rules.specs.Statements.{Name, plain, ColumnDefinition, CreateTable}
 use Rattle.rules.specs.Bound.{BoundStatement}
 use Rattle.rules.specs.Analyze.{analyze_create_table}
-use Rattle.rules.specs.Theorems.Answered.{never_given}
+use Rattle.rules.proofs.Theorems.Answered.{never_given}
 use Rattle.image_parts.specs.Layout.{object_name, column_definition, create}
 use Rattle.bind_create.specs.declared.Key.{Key}
 use Rattle.bind_create.specs.declared.Keyed.{Keyed}

@@ -16,8 +16,8 @@ use Rattle.rules.specs.Names.{canonical, simple_name}
 use Rattle.rules.specs.Tables.{ColumnSchema, Catalogue, table_by_name}
 use Rattle.rules.specs.Statements.{Name, ObjectName, plain, qualified, CreateTable}
 use Rattle.rules.specs.Bound.{BoundStatement}
-use Rattle.rules.specs.Theorems.Answered.{never_given, bind_given}
-use Rattle.rules.specs.Theorems.Steps.{step, step_past}
+use Rattle.rules.proofs.Theorems.Answered.{never_given, bind_given}
+use Rattle.rules.proofs.Theorems.Steps.{step, step_past}
 use Rattle.rules.specs.Analyze.{define_columns, constraints, analyze_create_table}
 use Rattle.bind_create.specs.Defined.{definition, key_of, created, key_table, key_joined, define_table, create_steps}
 use Rattle.bind_create.specs.Keys.{read_of, read_key, read_joined}

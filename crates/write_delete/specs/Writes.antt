@@ -29,8 +29,8 @@ use Rattle.rules.specs.Fits.{bind_boolean_filter}
 use Rattle.rules.specs.Lookup.{bound_table}
 use Rattle.rules.specs.Statements.{Delete, Expr}
 use Rattle.rules.specs.Tables.{TableSchema, Catalogue}
-use Rattle.rules.specs.Theorems.Answered.{never_given}
-use Rattle.rules.specs.Theorems.Steps.{step, step_found}
+use Rattle.rules.proofs.Theorems.Answered.{never_given}
+use Rattle.rules.proofs.Theorems.Steps.{step, step_found}
 use Rattle.image_parts.specs.Layout.{condition, deletion}
 use Rattle.image_parts.specs.NamesHeld.{condition_holds}
 use Rattle.write_expression.specs.Writes.{Ready}

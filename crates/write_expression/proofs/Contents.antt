@@ -24,7 +24,7 @@ use Rattle.rules.specs.Marking.{with, literal_leaf, column_leaf, integer_leaf, l
 use Rattle.rules.specs.Names.{canonical}
 use Rattle.rules.specs.Numbers.{integer_literal}
 use Rattle.rules.specs.Tables.{ColumnSchema, TableSchema}
-use Rattle.rules.specs.Theorems.Answered.{never_fine, never_some}
+use Rattle.rules.proofs.Theorems.Answered.{never_fine, never_some}
 use Rattle.text_names.specs.Compared.{named}
 use Rattle.text_numbers.specs.declared.Literal.TheVariants as number
 use Rattle.text_numbers.specs.Literal as literal

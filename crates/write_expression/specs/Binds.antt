@@ -28,7 +28,7 @@ use Rattle.rules.specs.Marking.{
 use Rattle.rules.specs.Numbers.{integer_literal}
 use Rattle.rules.specs.Statements.{Leaf, Unary, parentheses, null_test, unary, other_unary, Binary, binary, other_binary, Expr}
 use Rattle.rules.specs.Tables.{TableSchema}
-use Rattle.rules.specs.Theorems.Answered.{bind_given, never_given, never_fine}
+use Rattle.rules.proofs.Theorems.Answered.{bind_given, never_given, never_fine}
 use Rattle.image_catalogue.specs.Layout.{table}
 use Rattle.bytes_bundle.specs.Decides.{and_of}
 use Rattle.bytes_bundle.specs.Held.{Holds, held_once}

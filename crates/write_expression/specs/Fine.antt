@@ -14,7 +14,7 @@ use Rattle.rules.specs.Answers.{Verdict, fine, flaw}
 use Rattle.rules.specs.Lookup.{mark}
 use Rattle.rules.specs.Marking.{is, two_of, equality, ordering, unary_rule, operator_rule, typed, binary_rule}
 use Rattle.rules.specs.Statements.{Binary, binary}
-use Rattle.rules.specs.Theorems.Answered.{never_fine}
+use Rattle.rules.proofs.Theorems.Answered.{never_fine}
 use Rattle.image_expression.specs.Place.{un_of, bin_of}
 use Rattle.bind_operators.specs.declared.Ruling.{Ruling}
 use Rattle.bind_operators.specs.declared.Ruling.TheVariants as ruling

@@ -12,8 +12,8 @@ use Rattle.rules.specs.Lookup.{bound_table, column_by_name}
 use Rattle.rules.specs.Names.{canonical}
 use Rattle.rules.specs.Statements.{Name, Expr, SourceBody, values, not_values, Source, Insert}
 use Rattle.rules.specs.Analyze.{insert_columns, insert_literal, value_fit, insert_values, insert_row, insert_body, analyze_insert}
-use Rattle.rules.specs.Theorems.Answered.{never_given}
-use Rattle.rules.specs.Theorems.Steps.{step, step_found, step_past, step_fine}
+use Rattle.rules.proofs.Theorems.Answered.{never_given}
+use Rattle.rules.proofs.Theorems.Steps.{step, step_found, step_past, step_fine}
 use Rattle.bind_table.specs.Steps.{step_on}
 use Rattle.bind_table.specs.Tables.{named_table}
 use Rattle.bind_insert_columns.specs.declared.Need.TheVariants as need

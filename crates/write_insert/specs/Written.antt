@@ -18,7 +18,7 @@ use Rattle.rules.specs.Bound.{BoundTableRef, BoundInsert, BoundStatement, bound_
 use Rattle.rules.specs.Lookup.{bound_table}
 use Rattle.rules.specs.Statements.{Expr, SourceBody, values, Source, Insert}
 use Rattle.rules.specs.Analyze.{analyze_insert}
-use Rattle.rules.specs.Theorems.Answered.{never_given}
+use Rattle.rules.proofs.Theorems.Answered.{never_given}
 use Rattle.image_bound.specs.Columns.{bound_table_ref, bound_column_ref}
 use Rattle.image_bound.specs.Layout.{bound_statement}
 use Rattle.image_bound.specs.Bundles.{head3, head3_length}

@@ -29,8 +29,8 @@ use Rattle.rules.specs.Fits.{bind_boolean_filter}
 use Rattle.rules.specs.Lookup.{bound_table}
 use Rattle.rules.specs.Statements.{Select, QueryBody, plain_select, not_plain, Query, Expr}
 use Rattle.rules.specs.Tables.{TableSchema, Catalogue}
-use Rattle.rules.specs.Theorems.Answered.{never_given}
-use Rattle.rules.specs.Theorems.Steps.{step, step_past}
+use Rattle.rules.proofs.Theorems.Answered.{never_given}
+use Rattle.rules.proofs.Theorems.Steps.{step, step_past}
 use Rattle.bind_select.specs.Selects.{selected_table, selected_rows, Filter, selected, selected_length, plainly}
 use Rattle.bind_select.specs.Within.{QueryWithin, SelectWithin, Plain, plain_within, select_items, select_condition}
 use Rattle.image_parts.specs.Layout as layout

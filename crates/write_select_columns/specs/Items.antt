@@ -15,8 +15,8 @@ use Rattle.rules.specs.Lookup.{column_by_name}
 use Rattle.rules.specs.Names.{canonical}
 use Rattle.rules.specs.Statements.{Name, Item, star, column, other_item}
 use Rattle.rules.specs.Tables.{TableSchema}
-use Rattle.rules.specs.Theorems.Answered.{never_given}
-use Rattle.rules.specs.Theorems.Steps.{step, step_found}
+use Rattle.rules.proofs.Theorems.Answered.{never_given}
+use Rattle.rules.proofs.Theorems.Steps.{step, step_found}
 use Rattle.image_select.specs.Held.{item_no}
 use Rattle.bind_select.specs.Within.{ItemsWithin, ItemWithin, called_short}
 use Rattle.image_parts.specs.Layout as layout

@@ -13,8 +13,8 @@ use Rattle.rules.specs.Answers.{Answer, given}
 use Rattle.rules.specs.Bound.{BoundStatement, bound_begin, bound_commit, bound_rollback, bound_show_tables, bound_show_transactions}
 use Rattle.rules.specs.Statements.{Kind, begin, commit, show_tables, other_kind, Statement}
 use Rattle.rules.specs.Tables.{Catalogue}
-use Rattle.rules.specs.Theorems.Answered.{never_given}
-use Rattle.rules.specs.Theorems.Steps.{step_past}
+use Rattle.rules.proofs.Theorems.Answered.{never_given}
+use Rattle.rules.proofs.Theorems.Steps.{step_past}
 use Rattle.rules.specs.Trimmed.{is_show_transactions}
 use Rattle.image_parts.specs.Layout.{statement}
 use Rattle.bytes_wire.specs.Sets.{Wrote}

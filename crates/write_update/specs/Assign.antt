@@ -26,7 +26,7 @@ use Rattle.rules.specs.declared.TableId.{TableId}
 use Rattle.rules.specs.Bound.{BoundColumnRef, BoundExpr, BoundAssignment}
 use Rattle.rules.specs.Statements.{Assignment}
 use Rattle.rules.specs.Tables.{TableSchema}
-use Rattle.rules.specs.Theorems.Answered.{never_given}
+use Rattle.rules.proofs.Theorems.Answered.{never_given}
 use Rattle.bind_update.specs.declared.Targeted.{Targeted}
 use Rattle.bind_update.specs.declared.Targeted.TheVariants as targeted
 use Rattle.bind_update.specs.Assigned.{assigned}

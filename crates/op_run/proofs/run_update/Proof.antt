@@ -9,7 +9,7 @@ use Rattle.bind_table.specs.Short.{update_short, short_table}
 use Rattle.bind_table.specs.Steps.{TableGiven, resolved_at, resolved_off}
 use Rattle.rules.specs.Analyze.{resolve_direct_table}
 use Rattle.rules.specs.Heard.{Running}
-use Rattle.rules.specs.Theorems.Answered.{never_given}
+use Rattle.rules.proofs.Theorems.Answered.{never_given}
 use Rattle.op_run.specs.Stands.{Stands, stands_over}
 use borrow.Author.Rules.{rules}
 use Rattle.op_run.proofs.run_update.Statement.{statement}

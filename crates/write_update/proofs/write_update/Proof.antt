@@ -10,7 +10,7 @@ use Rattle.bind_table.specs.Steps.{TableGiven, resolved_at, resolved_off}
 use Rattle.rules.specs.Analyze.{resolve_direct_table}
 use Rattle.rules.specs.Statements.{Update}
 use Rattle.rules.specs.Tables.{Catalogue}
-use Rattle.rules.specs.Theorems.Answered.{never_given}
+use Rattle.rules.proofs.Theorems.Answered.{never_given}
 use Rattle.write_update.specs.Given.{update_given}
 use Rattle.write_update.specs.Whole.{table_room, wrote_whole}
 use borrow.Author.Rules.{rules}

@@ -4,7 +4,6 @@ use mathlib.Core.Path.{◌≡◌, refl}
 use lib.ListN.{length, length-map}
 use Rattle.image_bound.specs.Made.{column_ids}
 use Rattle.image_bound.specs.Spelt.{ids_length}
-use borrow.Author.Rules.{rules}
 use Rattle.image_bound.proofs.bundles.ids_len.Goals as goal
 
 pub returns : goal.returns

@@ -3,7 +3,6 @@ use mathlib.Core.Path.{ap}
 use mathlib.Core.List.{[], ◌∷◌}
 use Prim.Native.Nat.{ℕ}
 use Rattle.image_bound.specs.Written.{spelt}
-use borrow.Author.Rules.{rules}
 use Rattle.image_bound.proofs.fields.put_type.Goals as goal
 
 pub returns : goal.returns

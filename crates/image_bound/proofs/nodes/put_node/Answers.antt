@@ -1,7 +1,6 @@
 -- `image_bound::nodes::put_node` meets its contract: four writes, one behind the other.
 use Rattle.bytes_wire.specs.Sets.{then}
 use Rattle.image_bound.specs.Nodes.{node_bytes}
-use borrow.Author.Rules.{rules}
 use Rattle.image_bound.proofs.nodes.put_node.Goals as goal
 
 pub returns : goal.returns

@@ -9,7 +9,6 @@ use Rattle.bytes_wire.specs.Le.{le}
 use Rattle.bytes_wire.specs.Sets.{then}
 use Rattle.image_bound.specs.Written.{spelt}
 use Rattle.image_bound.specs.Spelt.{int_spelt}
-use borrow.Author.Rules.{rules}
 use Rattle.image_bound.proofs.values.put_int.Goals as goal
 
 pub returns : goal.returns

@@ -2,7 +2,6 @@
 use Rattle.bytes_wire.specs.Sets.{then}
 use Rattle.image_bound.specs.Written.{spelt}
 use Rattle.image_bound.specs.Spelt.{text_spelt}
-use borrow.Author.Rules.{rules}
 use Rattle.image_bound.proofs.values.put_text.Goals as goal
 
 pub returns : goal.returns

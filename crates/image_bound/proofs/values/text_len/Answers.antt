@@ -2,7 +2,6 @@
 use native.Mathlib.Omega.{arith}
 use mathlib.Core.Path.{refl}
 use Rattle.image_bound.specs.Spelt.{text_length}
-use borrow.Author.Rules.{rules}
 use Rattle.image_bound.proofs.values.text_len.Goals as goal
 
 pub returns : goal.returns

@@ -30,8 +30,8 @@ use Rattle.rules.specs.Marking.{
   bind_expression,
 }
 use Rattle.rules.specs.Obeys.{Obeys, at_leaf, at_signed, at_unary, at_binary}
-use Rattle.rules.specs.Theorems.Answered.{mapped, bind_given, mapped_given, never_given, never_fine, judged_given, Reads}
-use Rattle.rules.specs.Theorems.Nodes.{number_reads, leaf_reads, unary_reads, binary_reads}
+use Rattle.rules.proofs.Theorems.Answered.{mapped, bind_given, mapped_given, never_given, never_fine, judged_given, Reads}
+use Rattle.rules.proofs.Theorems.Nodes.{number_reads, leaf_reads, unary_reads, binary_reads}
 
 -- ---- the marking of a tree
 

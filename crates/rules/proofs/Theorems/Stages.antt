@@ -4,7 +4,7 @@ use Rattle.std.specs.Prelude.{◌≡◌, refl, Bool, true, false, ◌↔◌, Lis
 use Rattle.std.proofs.Common.{◌∙◌, sym, ap, true≢false}
 use Rattle.rules.specs.Lists.{any}
 use Rattle.rules.specs.Heard.{Outcome, refuses, answers, next}
-use Rattle.rules.specs.Theorems.Steps.{never_answers}
+use Rattle.rules.proofs.Theorems.Steps.{never_answers}
 
 -- the number k is not heard
 abbrev pub Never : {A : Type 0} → ℕ → Outcome A → Type 0

@@ -7,7 +7,7 @@ use Rattle.rules.specs.declared.Class.{Class}
 use Rattle.rules.specs.Answers.{Answer, given, refused, ◌>>=◌, ◌>>◌, refuse_if, found, Verdict, fine, flaw, judged}
 use Rattle.rules.specs.Heard.{Outcome, refuses, answers, heard, fitted}
 use Rattle.rules.specs.Demand.{Answers, Room}
-use Rattle.rules.specs.Theorems.Answered.{never_given}
+use Rattle.rules.proofs.Theorems.Answered.{never_given}
 
 -- an answer that is no refusal
 abbrev pub Gives : {A : Type 0} → Answer A → Type 0

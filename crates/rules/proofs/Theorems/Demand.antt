@@ -12,12 +12,12 @@ use Rattle.rules.specs.Rows.{Row, row_obeys}
 use Rattle.rules.specs.Evaluate.{Worked, worked, fault, update_row}
 use Rattle.rules.specs.Heard.{Read, refuses, answers, runnable, worked_out, ran_statement, run_outcome}
 use Rattle.rules.specs.Demand.{Taken, Answers, RunsExactly, Demand}
-use Rattle.rules.specs.Theorems.Marked.{unique}
-use Rattle.rules.specs.Theorems.Steps.{roomy}
-use Rattle.rules.specs.Theorems.Update.{update_exactly, taken_analyzed, binds_exactly}
-use Rattle.rules.specs.Theorems.HasMark.{FaultsOr}
-use Rattle.rules.specs.Theorems.Values.{comes_to}
-use Rattle.rules.specs.Theorems.Rows.{update_obeys}
+use Rattle.rules.proofs.Theorems.Marked.{unique}
+use Rattle.rules.proofs.Theorems.Steps.{roomy}
+use Rattle.rules.proofs.Theorems.Update.{update_exactly, taken_analyzed, binds_exactly}
+use Rattle.rules.proofs.Theorems.HasMark.{FaultsOr}
+use Rattle.rules.proofs.Theorems.Values.{comes_to}
+use Rattle.rules.proofs.Theorems.Rows.{update_obeys}
 
 -- ---- what a caller hears of a row that was worked out, where it is a fault or a row
 

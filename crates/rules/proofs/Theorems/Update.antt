@@ -26,10 +26,10 @@ use Rattle.rules.specs.Fits.{is_condition, bind_boolean_filter, fit}
 use Rattle.rules.specs.Analyze.{target_name, assignment, assignments, relation_name, resolve_direct_table, analyze_update, analyze_kind, analyze}
 use Rattle.rules.specs.Heard.{Read, heard, judged_statement, bind_outcome}
 use Rattle.rules.specs.Demand.{Taken, BindsExactly}
-use Rattle.rules.specs.Theorems.Answered.{never_given, judged_given}
-use Rattle.rules.specs.Theorems.Marked.{bound_of, obeys_of}
-use Rattle.rules.specs.Theorems.Fits.{condition_exactly, null_may, fit_exactly}
-use Rattle.rules.specs.Theorems.Steps.{Gives, step, step_found, step_past, step_fine, heard_exactly, roomy}
+use Rattle.rules.proofs.Theorems.Answered.{never_given, judged_given}
+use Rattle.rules.proofs.Theorems.Marked.{bound_of, obeys_of}
+use Rattle.rules.proofs.Theorems.Fits.{condition_exactly, null_may, fit_exactly}
+use Rattle.rules.proofs.Theorems.Steps.{Gives, step, step_found, step_past, step_fine, heard_exactly, roomy}
 
 given_same : {A : Type 0} {a b : A} → given a ≡ given b → a ≡ b
 given_same h = cc

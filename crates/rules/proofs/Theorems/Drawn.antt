@@ -9,7 +9,7 @@ use Rattle.rules.specs.declared.ExpressionType.TheVariants as type
 use Rattle.rules.specs.declared.BoundBinaryOperator.TheVariants as op
 use Rattle.rules.specs.Lists.{ascii}
 use Rattle.rules.specs.Answers.{given, each}
-use Rattle.rules.specs.Theorems.Answered.{mapped}
+use Rattle.rules.proofs.Theorems.Answered.{mapped}
 use Rattle.rules.specs.Tables.{table_by_name}
 use Rattle.rules.specs.Statements.{Name, ObjectName, Leaf, Expr, binary, other_binary, ColumnType, known, other_type, OptionKind, option_null, option_key, other_option, ColumnDefinition, Constraint, primary_key, direct, target, Assignment, Kind, create_table, insert, update, other_kind, Statement}
 use Rattle.rules.specs.Bound.{BoundStatement, bound_create_table}
@@ -58,7 +58,7 @@ use Rattle.rules.specs.Analyze.{
 }
 use Rattle.rules.specs.Limits.{expression_names, held_by_create_table, held_by_insert, held_by_update, held_by, held_within, table_within, statement_within, catalogue_within, names_beyond_ascii}
 use Rattle.rules.specs.Heard.{judged_statement}
-use Rattle.rules.specs.Theorems.Runs.{runs, unquoted, name, number, ◌⟨◌⟩◌, Answered, binds, is, read, bound}
+use Rattle.rules.proofs.Theorems.Runs.{runs, unquoted, name, number, ◌⟨◌⟩◌, Answered, binds, is, read, bound}
 
 -- ---- how the statements are written here
 

@@ -19,7 +19,7 @@ use Rattle.rules.specs.Rows.{Row, value_obeys, columns_obeyed, row_obeys}
 use Rattle.rules.specs.Evaluate.{arithmetic, operate, binary_value, leaf_value, evaluate, target_column, assigned, update_row}
 use Rattle.rules.specs.Limits.{expression_names, held_by_update, held_by, held_within, table_within, statement_within, catalogue_within, names_beyond_ascii}
 use Rattle.rules.specs.Heard.{Outcome, refuses, Read, judged_statement, bind_outcome, runnable, ran_statement, run_outcome}
-use Rattle.rules.specs.Theorems.Runs.{runs, unquoted, name, number, literal_null, ◌⟨◌⟩◌, setting, read}
+use Rattle.rules.proofs.Theorems.Runs.{runs, unquoted, name, number, literal_null, ◌⟨◌⟩◌, setting, read}
 
 pub record Input : Type 0 where
   pub statement : Option (Read Statement)

@@ -21,8 +21,8 @@ use Rattle.rules.specs.Obeys.{FitObeys, AssignmentObeys, AssignmentsObey, no_mor
 use Rattle.rules.specs.Analyze.{target_name}
 use Rattle.rules.specs.Rows.{Row, value_obeys, columns_obeyed, row_obeys}
 use Rattle.rules.specs.Evaluate.{Worked, worked, evaluate, is_true, target_column, assigned, update_row}
-use Rattle.rules.specs.Theorems.HasMark.{OfType, HasMark, of_type, may_be_null_lem, FaultsOr}
-use Rattle.rules.specs.Theorems.Values.{so_too, comes_to, and_next, StandsAt, here, behind, column_of_lem, value_obeys_lem, value_has_mark}
+use Rattle.rules.proofs.Theorems.HasMark.{OfType, HasMark, of_type, may_be_null_lem, FaultsOr}
+use Rattle.rules.proofs.Theorems.Values.{so_too, comes_to, and_next, StandsAt, here, behind, column_of_lem, value_obeys_lem, value_has_mark}
 
 -- ---- a value given to a column
 

@@ -20,9 +20,9 @@ use Rattle.rules.specs.Lookup.{expression_type}
 use Rattle.rules.specs.Marking.{is, Marking, root_mark, bind_expression}
 use Rattle.rules.specs.Obeys.{LeafObeys, UnaryObeys, OperatorObeys, BinaryObeys, Obeys, FitObeys, at_leaf, at_signed, at_unary, at_binary}
 use Rattle.rules.specs.Fits.{is_condition, fit}
-use Rattle.rules.specs.Theorems.Answered.{passed, reads_fine, reads_as, reads_if, reads_unless, reads_either}
-use Rattle.rules.specs.Theorems.Nodes.{is_exactly, apart}
-use Rattle.rules.specs.Theorems.Marked.{obeys_of}
+use Rattle.rules.proofs.Theorems.Answered.{passed, reads_fine, reads_as, reads_if, reads_unless, reads_either}
+use Rattle.rules.proofs.Theorems.Nodes.{is_exactly, apart}
+use Rattle.rules.proofs.Theorems.Marked.{obeys_of}
 
 -- ---- type NULL may be null
 

@@ -28,8 +28,8 @@ use Rattle.rules.specs.Trimmed.{is_show_transactions}
 use Rattle.rules.specs.Fits.{bind_boolean_filter}
 use Rattle.rules.specs.Analyze.{assignments, resolve_direct_table, analyze_create_table, analyze_insert, analyze_select, analyze_update, analyze_delete, analyze_kind, analyze}
 use Rattle.rules.specs.Heard.{Running, update_of, runnable}
-use Rattle.rules.specs.Theorems.Answered.{never_given}
-use Rattle.rules.specs.Theorems.Steps.{step, step_found, step_past}
+use Rattle.rules.proofs.Theorems.Answered.{never_given}
+use Rattle.rules.proofs.Theorems.Steps.{step, step_found, step_past}
 
 -- a bound statement that is an UPDATE
 abbrev pub IsUpdate : BoundStatement → Type 0

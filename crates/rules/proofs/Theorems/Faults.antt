@@ -16,11 +16,11 @@ use Rattle.rules.specs.Rows.{Row}
 use Rattle.rules.specs.Evaluate.{Worked, fault, no_rule}
 use Rattle.rules.specs.Obeys.{UpdateObeys}
 use Rattle.rules.specs.Heard.{refuses, Read, Running, update_of, runnable, run_outcome}
-use Rattle.rules.specs.Theorems.Steps.{step, step_found, step_past}
-use Rattle.rules.specs.Theorems.Update.{update_exactly}
-use Rattle.rules.specs.Theorems.HasMark.{FaultsOr}
-use Rattle.rules.specs.Theorems.Rows.{update_obeys}
-use Rattle.rules.specs.Theorems.Order.{Asked, Obeying, changed, eleven_exactly}
+use Rattle.rules.proofs.Theorems.Steps.{step, step_found, step_past}
+use Rattle.rules.proofs.Theorems.Update.{update_exactly}
+use Rattle.rules.proofs.Theorems.HasMark.{FaultsOr}
+use Rattle.rules.proofs.Theorems.Rows.{update_obeys}
+use Rattle.rules.proofs.Theorems.Order.{Asked, Obeying, changed, eleven_exactly}
 
 abbrev RunningObeys : Running → Type 0
 RunningObeys r = UpdateObeys r.table r.assignments r.condition

@@ -20,10 +20,10 @@ use Rattle.rules.specs.Limits.{statement_within, catalogue_within, names_beyond_
 use Rattle.rules.specs.Rows.{Row, row_obeys}
 use Rattle.rules.specs.Evaluate.{Worked, worked, fault, no_rule, update_row}
 use Rattle.rules.specs.Heard.{Outcome, refuses, answers, next, class_no, heard, Read, received, judged_statement, fitted, bind_outcome, Running, runnable, asked, obeying, worked_out, ran_on, ran_statement, run_outcome}
-use Rattle.rules.specs.Theorems.Answered.{never_given}
-use Rattle.rules.specs.Theorems.Steps.{never_answers, heard_answers}
-use Rattle.rules.specs.Theorems.Stages.{Never, among, one_to_four, five_to_eight, number_same, never_other, never_refuses, never_next, first_stage, later_stage, same_after, next_answers, next_assoc, reworded, same_word}
-use Rattle.rules.specs.Theorems.Runnable.{IsUpdate, runnable_exactly}
+use Rattle.rules.proofs.Theorems.Answered.{never_given}
+use Rattle.rules.proofs.Theorems.Steps.{never_answers, heard_answers}
+use Rattle.rules.proofs.Theorems.Stages.{Never, among, one_to_four, five_to_eight, number_same, never_other, never_refuses, never_next, first_stage, later_stage, same_after, next_answers, next_assoc, reworded, same_word}
+use Rattle.rules.proofs.Theorems.Runnable.{IsUpdate, runnable_exactly}
 
 -- ---- 5, 6, 7, 8: what the table says
 

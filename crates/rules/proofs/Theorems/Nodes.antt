@@ -46,7 +46,7 @@ use Rattle.rules.specs.Obeys.{
   OperatorObeys,
   BinaryObeys,
 }
-use Rattle.rules.specs.Theorems.Answered.{
+use Rattle.rules.proofs.Theorems.Answered.{
   never_fine,
   Reads,
   Exactly,

@@ -65,8 +65,8 @@ use Rattle.rules.specs.Evaluate.{
   leaf_value,
   evaluate,
 }
-use Rattle.rules.specs.Theorems.Answered.{never_some}
-use Rattle.rules.specs.Theorems.HasMark.{OfType, an_int, a_text, a_bool, HasMark, of_type, may_be_null_lem, FaultsOr}
+use Rattle.rules.proofs.Theorems.Answered.{never_some}
+use Rattle.rules.proofs.Theorems.HasMark.{OfType, an_int, a_text, a_bool, HasMark, of_type, may_be_null_lem, FaultsOr}
 
 -- ---- what is worked out
 
