@@ -19,7 +19,7 @@ PATH = re.compile(r"(?<![^\s(){};,@⟨⟩])(" + NAME + r")((?:\.(?:" + NAME + r"
 
 
 def norm(name):
-    return name.strip("«»").replace("_", "-")
+    return name.strip("«»").replace("_", "-").replace("All-there", "all-there")
 
 
 def bare_goal(name):
@@ -94,9 +94,8 @@ class Function:
 
         def whole(at):
             if goal is None:
-                if at != place:
-                    self.left.append("a lemma hands on another place")
-                return var
+                far = list(self.line(place)).index(at)
+                return var + ".before" * far
             return f"(goal.at.{goal} {var}).{self.names[at]}"
 
         out, at_text = [], 0

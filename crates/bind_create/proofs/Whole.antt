@@ -7,7 +7,7 @@ use mathlib.Core.Option.{Option, none, some}
 use Prim.Native.Nat.{ℕ, ◌+◌, ◌*◌, ◌≤◌}
 use native.Mathlib.Omega.{arith}
 use lib.ListN.{length, length-map}
-use Rattle.bytes_format.specs.Layout.{list_of}
+use Rattle.bytes_format.proofs.Formats.{list_of}
 use Rattle.image_bound.specs.Layout.{bound_statement}
 use Rattle.bytes_bundle.specs.Held.{Holds, Is, held, held_once}
 use Rattle.image_expression.specs.Names.{Within}

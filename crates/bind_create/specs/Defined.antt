@@ -35,7 +35,7 @@ use Rattle.rules.specs.Analyze.{
 }
 use Rattle.bind_table.specs.Steps.{steps_joined}
 use Rattle.bind_table.specs.Tables.{new_name, new_joined, canonical_length}
-use Rattle.bytes_format.specs.Layout.{list_of}
+use Rattle.bytes_format.proofs.Formats.{list_of}
 use Rattle.image_value.specs.Parts.{column_schema}
 use Rattle.image_bound.specs.Layout.{bound_statement}
 use Rattle.image_bound.specs.Spelt.{column_length, ids_length}

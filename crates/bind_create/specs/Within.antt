@@ -6,7 +6,7 @@ use Rattle.std.proofs.Math.Bool.{true}
 use Rattle.std.proofs.Math.Option.{Option}
 use borrow.Author.Tests.{leb-true}
 use Rattle.std.proofs.Math.ListN.{length}
-use Rattle.bytes_format.specs.Layout.{list_of}
+use Rattle.bytes_format.proofs.Formats.{list_of}
 use Rattle.bytes_bundle.specs.Bundle.{parts_of}
 use Rattle.bytes_bundle.specs.Decides.{and_of}
 use Rattle.bytes_bundle.specs.Held.{Holds, Is, held, held_once, is_held, list_count}

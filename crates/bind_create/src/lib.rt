@@ -3,7 +3,7 @@
 
 ghost use Rattle.std.specs.Prelude.{◌≡◌, cond, ◌&&◌, List, [], map, ◌≤◌, length};
 ghost use Rattle.std.proofs.Math.Option.{Option, some};
-ghost use Rattle.bytes_format.specs.Layout.{list_of};
+ghost use Rattle.bytes_format.proofs.Formats.{list_of};
 ghost use Rattle.bytes_bundle.specs.Held.{Is, Holds};
 ghost use Rattle.image_bound.specs.Layout.{bound_statement};
 ghost use Rattle.image_catalogue.specs.Layout.{catalogue};

@@ -2,7 +2,7 @@
 -- Assumes nothing.
 use Rattle.std.specs.Prelude.{◌≡◌, true, List, ℕ}
 use Rattle.std.proofs.Common.{ap, ◌∙◌}
-use Rattle.bytes_format.specs.Layout.{list_of}
+use Rattle.bytes_format.proofs.Formats.{list_of}
 use Rattle.bytes_bundle.specs.Held.{Is, Holds, held, held_once}
 use Rattle.image_catalogue.specs.Layout.{table, catalogue}
 use Rattle.image_catalogue.specs.Values.{catalogue_tables}

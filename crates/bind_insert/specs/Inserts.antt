@@ -2,7 +2,7 @@
 -- Assumes nothing.
 use Rattle.std.specs.Prelude.{◌≡◌, refl, true, false, List, [], map, ℕ, ◌+◌, length}
 use Rattle.std.proofs.Common.{ap, ◌∙◌, arith}
-use Rattle.bytes_format.specs.Layout.{list_of}
+use Rattle.bytes_format.proofs.Formats.{list_of}
 use Rattle.image_value.specs.Parts.{value}
 use Rattle.rules.specs.declared.Class.TheVariants.{ConstraintViolation, UnsupportedSql}
 use Rattle.rules.specs.declared.Refusal.{Refusal}

@@ -2,7 +2,7 @@
 -- Assumes nothing.
 use Rattle.std.specs.Prelude.{◌≡◌, true, List, ◌++◌, map, ℕ, length}
 use Rattle.std.proofs.Common.{ap, ◌∙◌, arith, leb-true}
-use Rattle.bytes_format.specs.Layout.{list_of}
+use Rattle.bytes_format.proofs.Formats.{list_of}
 use Rattle.bytes_bundle.specs.Decides.{and_of}
 use Rattle.bytes_bundle.specs.Held.{Is, Holds, is_held, held, held_once, list_count}
 use Rattle.image_expression.specs.Names.{Within}

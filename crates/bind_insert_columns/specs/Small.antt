@@ -4,7 +4,7 @@ use Rattle.std.specs.Prelude.{◌≡◌, List, [], ◌∷◌, ℕ, zero, suc, �
 use Rattle.std.proofs.Common.{sym, ap, subst, arith}
 use Rattle.bytes_wire.specs.Le.{Bytes}
 use Rattle.bytes_format.specs.Format.{Every}
-use Rattle.bytes_format.specs.Layout.{pieces}
+use Rattle.bytes_format.proofs.Formats.{pieces}
 use Rattle.bytes_bundle.specs.Bundle.{or_nil, parts_of, IsBundle, Stepped}
 use Rattle.bytes_bundle.specs.Laws.{some_there}
 use Rattle.bytes_bundle.specs.Held.{Holds}

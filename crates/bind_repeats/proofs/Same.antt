@@ -9,7 +9,7 @@ use native.Mathlib.Omega.{arith}
 use lib.ListN.{length}
 use Rattle.bytes_format.specs.Format.{Format}
 use Rattle.bytes_format.specs.Ways.{next}
-use Rattle.bytes_format.specs.Laws.{next_some}
+use Rattle.bytes_format.proofs.Laws.{next_some}
 use Rattle.bytes_bundle.specs.Held.{Is, Holds, held, held_once, is_held}
 use Rattle.text_names.specs.Compared.{named}
 use Rattle.rules.specs.Lists.{Text}

@@ -4,7 +4,7 @@ use Rattle.std.specs.Prelude.{◌≡◌, refl, Bool, true, List, [], ◌∷◌, 
 use Rattle.std.proofs.Common.{ap}
 use Rattle.std.proofs.Math.Option.{Option, none, some}
 use Rattle.bytes_format.specs.Format.{Format}
-use Rattle.bytes_format.specs.Layout.{list_of, optional}
+use Rattle.bytes_format.proofs.Formats.{list_of, optional}
 use Rattle.bytes_bundle.specs.Held.{Holds, Is}
 use Rattle.rules.specs.Lists.{Text, all}
 use Rattle.rules.specs.Names.{canonical}

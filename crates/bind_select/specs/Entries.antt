@@ -2,7 +2,7 @@
 -- Assumes nothing.
 use Rattle.std.specs.Prelude.{◌≡◌, refl, List, [], ◌∷◌, ◌++◌, ℕ, suc, ◌+◌, length}
 use Rattle.std.proofs.Common.{◌∙◌, arith}
-use Rattle.bytes_format.specs.Layout.{list_of}
+use Rattle.bytes_format.proofs.Formats.{list_of}
 use Rattle.image_bound.specs.Columns.{bound_column_ref}
 use Rattle.image_bound.specs.Sizes.{no_parts_length, more_parts_length}
 use Rattle.image_bound.specs.Spelt.{column_ref_length}

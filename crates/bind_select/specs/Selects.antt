@@ -6,7 +6,7 @@ use Rattle.std.proofs.Common.{◌∙◌, arith, drop_of_length-le}
 use mathlib.Core.List.{List, [], ◌∷◌, ◌++◌}
 use Rattle.std.proofs.Math.Option.{Option, none, some}
 use Rattle.bytes_format.specs.Format.{Format}
-use Rattle.bytes_format.specs.Layout.{optional, list_of}
+use Rattle.bytes_format.proofs.Formats.{optional, list_of}
 use Rattle.image_bound.specs.Columns.{bound_table_ref, bound_column_ref}
 use Rattle.image_bound.specs.Expression.{bound_expression, bound_expression_not_empty}
 use Rattle.image_bound.specs.Layout.{bound_statement}

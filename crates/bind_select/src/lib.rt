@@ -3,7 +3,7 @@
 
 ghost use Rattle.std.specs.Prelude.{◌≡◌, List, ◌+◌, ◌≤◌};
 ghost use Rattle.std.proofs.Math.Option.{Option};
-ghost use Rattle.bytes_format.specs.Layout.{list_of};
+ghost use Rattle.bytes_format.proofs.Formats.{list_of};
 ghost use Rattle.bytes_bundle.specs.Held.{Is, Holds};
 ghost use Rattle.image_bound.specs.Columns.{bound_column_ref};
 ghost use Rattle.image_bound.specs.Layout.{bound_statement};

@@ -3,7 +3,7 @@
 use Rattle.std.specs.Prelude.{◌≡◌, refl, Bool, List, ℕ, zero, suc}
 use Rattle.std.proofs.Common.{sym, subst}
 use Rattle.bytes_format.specs.Format.{Format}
-use Rattle.bytes_format.specs.Layout.{mark, both, alone}
+use Rattle.bytes_format.proofs.Formats.{mark, both, alone}
 use Rattle.bytes_bundle.specs.Held.{Holds}
 use Rattle.bytes_bundle.specs.Looks.{Inside}
 use Rattle.rules.specs.Statements.{Kind, create_table, insert, query, update, delete, begin, commit, rollback, show_tables, other_kind, Statement}

@@ -2,7 +2,7 @@
 ghost use Rattle.std.specs.Prelude.{◌≡◌, Bool, length};
 ghost use Rattle.image_bound.specs.Layout.{bound_statement};
 ghost use Rattle.bytes_bundle.specs.Held.{Is, Holds};
-ghost use Rattle.bytes_format.specs.Layout.{mark, both, alone};
+ghost use Rattle.bytes_format.proofs.Formats.{mark, both, alone};
 ghost use Rattle.bind_table.specs.Told.{sized};
 ghost use Rattle.rules.specs.Analyze.{analyze_kind};
 ghost use Rattle.rules.specs.Bound.{BoundStatement};

@@ -2,7 +2,7 @@
 #![tactic(auto)]
 
 ghost use Rattle.std.specs.Prelude.{◌≡◌};
-ghost use Rattle.bytes_format.specs.Layout.{list_of, text};
+ghost use Rattle.bytes_format.proofs.Formats.{list_of, text};
 ghost use Rattle.bytes_bundle.specs.Held.{Is, Holds};
 ghost use Rattle.image_catalogue.specs.Layout.{table};
 ghost use Rattle.catalogue_lookup.specs.Finds.{FindsTable};

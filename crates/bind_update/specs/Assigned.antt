@@ -6,7 +6,7 @@ use Rattle.std.proofs.Common.{◌∙◌, subst, arith, drop_of_length-le, length
 use mathlib.Core.List.{List, [], ◌∷◌, ◌++◌, map, append-nil, append_assoc}
 use Rattle.std.proofs.Math.Option.{Option, some}
 use Rattle.bytes_format.specs.Format.{Format}
-use Rattle.bytes_format.specs.Layout.{list_of}
+use Rattle.bytes_format.proofs.Formats.{list_of}
 use Rattle.image_bound.specs.Layout as layout
 use Rattle.image_bound.specs.Bundles.{bodies, bodies_snoc, list_length}
 use Rattle.bind_repeats.specs.declared.Of.TheVariants as of

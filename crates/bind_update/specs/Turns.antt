@@ -2,7 +2,7 @@
 -- Assumes nothing.
 use Rattle.std.specs.Prelude.{◌≡◌, Bool, List, [], ℕ, ◌+◌, ◌-◌, ◌≤◌, length, take, drop}
 use Rattle.std.proofs.Common.{ap, ◌∙◌, arith}
-use Rattle.bytes_format.specs.Layout.{list_of}
+use Rattle.bytes_format.proofs.Formats.{list_of}
 use Rattle.bytes_bundle.specs.Bundle.{parts_of, Stepped}
 use Rattle.bytes_bundle.specs.Held.{Holds, held, list_count, Along, turn}
 use Rattle.image_bound.specs.Layout as layout

@@ -2,7 +2,7 @@
 #![tactic(auto)]
 
 ghost use Rattle.std.specs.Prelude.{◌≡◌, List, []};
-ghost use Rattle.bytes_format.specs.Layout.{list_of};
+ghost use Rattle.bytes_format.proofs.Formats.{list_of};
 ghost use Rattle.bytes_bundle.specs.Held.{Is, Holds};
 ghost use Rattle.image_bound.specs.Expression.{bound_expression};
 ghost use Rattle.image_bound.specs.Layout as layout;

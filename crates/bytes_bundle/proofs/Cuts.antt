@@ -14,7 +14,7 @@ use lib.Dec.{leb, eqb, leb-zero, eqb-suc-zero}
 use borrow.Author.Tests.{le-leb, lt-leb, leb-true, leb-false, eq-eqb, ne_eqb}
 use Rattle.bytes_wire.specs.Le.{num}
 use Rattle.bytes_format.specs.Ways.{next, number_read, row_read, cut_read, headed_read}
-use Rattle.bytes_format.specs.Layout.{number, row, cut, pieces}
+use Rattle.bytes_format.proofs.Formats.{number, row, cut, pieces}
 use Rattle.bytes_bundle.specs.Laws.{drop_take}
 
 -- n numbers of w bytes each

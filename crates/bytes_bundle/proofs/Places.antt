@@ -14,7 +14,7 @@ use lib.Dec.{leb, eqb, lit<}
 use borrow.Author.Tests.{le-leb, lt-leb, leb-true, eq-eqb, ne_eqb, eqb-true, eqb-false}
 use Rattle.bytes_wire.specs.Le.{num}
 use Rattle.bytes_format.specs.Ways.{joined}
-use Rattle.bytes_format.specs.Layout.{pieces}
+use Rattle.bytes_format.proofs.Formats.{pieces}
 use Rattle.bytes_bundle.specs.Bundle.{is_there, or_nil, parts_of, IsBundle, PartAt, Stepped}
 use Rattle.bytes_bundle.specs.Decides.{and_of}
 use Rattle.bytes_bundle.proofs.Cuts.{lengths, fills, cuts, count, head, sizes, whole, pieces_of, pieces_read}

@@ -3,7 +3,7 @@
 use Rattle.std.specs.Prelude.{◌≡◌, Bool, true, false, ◌&&◌, List, [], ℕ, ◌+◌, ◌-◌, ◌≤◌, length, take, drop, get_or, eqb}
 use Rattle.std.proofs.Math.Option.{Option, none, some}
 use Rattle.bytes_format.specs.Ways.{joined}
-use Rattle.bytes_format.specs.Layout.{pieces}
+use Rattle.bytes_format.proofs.Formats.{pieces}
 
 -- a value was read
 abbrev pub is_there : {A : Type 0} → Option A → Bool

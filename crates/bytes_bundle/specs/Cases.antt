@@ -4,9 +4,9 @@ use Rattle.std.specs.Prelude.{◌≡◌, refl, List, [], ◌∷◌, ℕ, zero, s
 use Rattle.std.proofs.Common.{sym, ap, subst, inl, inr, arith}
 use Rattle.std.proofs.Math.Option.{Option, none, some, some-injective}
 use Rattle.bytes_format.specs.Ways.{some_read, some_code, Case, Some, made, spread}
-use Rattle.bytes_format.specs.Laws.{next_some, spread_one}
-use Rattle.bytes_format.specs.Layout.{pieces}
-use Rattle.bytes_format.specs.Sums.{sum, choice}
+use Rattle.bytes_format.proofs.Laws.{next_some, spread_one}
+use Rattle.bytes_format.proofs.Formats.{pieces}
+use Rattle.bytes_format.proofs.Sums.{sum, choice}
 use Rattle.bytes_bundle.specs.Bundle.{is_there, or_nil, parts_of, IsBundle}
 use Rattle.bytes_bundle.specs.Fields.{choice_value}
 

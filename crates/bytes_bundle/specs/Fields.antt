@@ -11,9 +11,9 @@ use Rattle.std.specs.Int.{w64}
 use Rattle.bytes_wire.specs.Le.{num}
 use Rattle.bytes_format.specs.Format.{Format, Fixed, Enum, Coded}
 use Rattle.bytes_format.specs.Ways.{next, number_read, code_read, some_read, Case, Some, made, spread}
-use Rattle.bytes_format.specs.Laws.{next_some}
-use Rattle.bytes_format.specs.Layout.{text, nothing, number, code, via, checked, via_field, checked_field, int64, headed, both, optional}
-use Rattle.bytes_format.specs.Sums.{choice, kinds, beside, recode, either, sum}
+use Rattle.bytes_format.proofs.Laws.{next_some}
+use Rattle.bytes_format.proofs.Formats.{text, nothing, number, code, via, checked, via_field, checked_field, int64, headed, both, optional}
+use Rattle.bytes_format.proofs.Sums.{choice, kinds, beside, recode, either, sum}
 use Rattle.bytes_bundle.specs.Bundle.{is_there}
 use Rattle.bytes_bundle.specs.Laws.{there_next, drop_take}
 use Rattle.bytes_utf8.specs.Decide.{is_utf8}

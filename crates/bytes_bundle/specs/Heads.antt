@@ -8,8 +8,8 @@ use Rattle.std.proofs.Math.Option.{some}
 use Rattle.std.proofs.Math.Dec.{eqb-suc-suc}
 use Rattle.bytes_format.specs.Format.{Format, Fixed}
 use Rattle.bytes_format.specs.Ways.{next}
-use Rattle.bytes_format.specs.Layout.{nothing, bools, mark, headed}
-use Rattle.bytes_format.specs.Sums.{Case, Some, made, spread, sum, choice}
+use Rattle.bytes_format.proofs.Formats.{nothing, bools, mark, headed}
+use Rattle.bytes_format.proofs.Sums.{Case, Some, made, spread, sum, choice}
 use Rattle.bytes_bundle.specs.Bundle.{is_there}
 use Rattle.bytes_bundle.specs.Decides.{all_of, Decides}
 use Rattle.bytes_bundle.specs.Laws.{there_next, all}

@@ -4,7 +4,7 @@ use Rattle.std.specs.Prelude.{◌≡◌, refl, Bool, true, List, [], ◌∷◌, 
 use Rattle.std.proofs.Common.{sym, ap, ◌∙◌, add-one, arith, length-drop, drop_of_length-le, drop-cons}
 use Rattle.std.proofs.Math.Option.{some, some-injective}
 use Rattle.bytes_format.specs.Format.{Format}
-use Rattle.bytes_format.specs.Layout.{list_of, pieces}
+use Rattle.bytes_format.proofs.Formats.{list_of, pieces}
 use Rattle.bytes_bundle.specs.Bundle.{is_there, parts_of, IsBundle, PartAt, Stepped}
 use Rattle.bytes_bundle.specs.Decides.{and_of}
 use Rattle.bytes_bundle.specs.Laws.{all, some_there, there_some, list_is, Each, list_values}

@@ -11,8 +11,8 @@ use Rattle.std.proofs.Math.Seq.{take-nil}
 use Rattle.std.proofs.Math.Dec.{eqb-zero-suc, eqb-suc-zero, eqb-suc-suc}
 use Rattle.bytes_format.specs.Format.{Format, Parts}
 use Rattle.bytes_format.specs.Ways.{next, joined, each_join, end_join, and_join}
-use Rattle.bytes_format.specs.Laws.{next_some}
-use Rattle.bytes_format.specs.Layout.{pieces, bundle, list_of, each, end, ◌and◌}
+use Rattle.bytes_format.proofs.Laws.{next_some}
+use Rattle.bytes_format.proofs.Formats.{pieces, bundle, list_of, each, end, ◌and◌}
 use Rattle.bytes_bundle.specs.Decides.{Decides, all_of, all_cons, and_of}
 use Rattle.bytes_bundle.specs.Bundle.{is_there, or_nil, parts_of, IsBundle, is_record, IsRecord, PartAt, Stepped}
 

@@ -3,7 +3,7 @@
 use Rattle.std.specs.Prelude.{◌≡◌, Bool, not, List, [], ◌∷◌, ℕ, ◌+◌, ◌-◌, ◌≤◌, length, take, drop}
 use Rattle.std.proofs.Common.{sym, ap, ◌∙◌}
 use Rattle.bytes_format.specs.Format.{Format}
-use Rattle.bytes_format.specs.Layout.{list_of}
+use Rattle.bytes_format.proofs.Formats.{list_of}
 use Rattle.bytes_bundle.specs.Bundle.{parts_of, PartAt, Stepped}
 use Rattle.bytes_bundle.specs.Held.{Is, Holds, is_held, held, Along, along, along_on, Left, left, left_on, left_stop, left_end}
 

@@ -8,9 +8,9 @@ use Rattle.std.proofs.Math.Dec.{eqb-suc-zero}
 use Rattle.bytes_utf8.specs.Decide.{is_utf8}
 use Rattle.bytes_format.specs.Format.{Format, Fixed, Enum}
 use Rattle.bytes_format.specs.Ways.{next, optional_read}
-use Rattle.bytes_format.specs.Laws.{next_some, at_place}
-use Rattle.bytes_format.specs.Layout.{text, nothing, code, bools, mark, headed}
-use Rattle.bytes_format.specs.Sums.{Case, case, Some, made, spread, sum, choice}
+use Rattle.bytes_format.proofs.Laws.{next_some, at_place}
+use Rattle.bytes_format.proofs.Formats.{text, nothing, code, bools, mark, headed}
+use Rattle.bytes_format.proofs.Sums.{Case, case, Some, made, spread, sum, choice}
 use Rattle.bytes_bundle.specs.Bundle.{is_there}
 use Rattle.bytes_bundle.specs.Fields.{Spot, code_spot, both_look, field_value, headed_value, choice_value, CaseHas, sum_has}
 

@@ -3,7 +3,7 @@
 #![tactic(auto)]
 
 ghost use Rattle.std.specs.Prelude.{◌≡◌, [], ◌≤◌, ◌<◌, length, get_or};
-ghost use Rattle.bytes_format.specs.Layout.{pieces};
+ghost use Rattle.bytes_format.proofs.Formats.{pieces};
 ghost use Rattle.bytes_bundle.specs.Bundle.{is_there, parts_of, IsBundle, is_record, PartAt, Stepped};
 
 // Whether the lengths in the contents add up to the bytes behind them.

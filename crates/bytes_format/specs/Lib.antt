@@ -1,9 +1,3 @@
 pub mod Format
 pub mod Ways
-pub mod Laws
-pub mod Layout
-pub mod Sums
-pub mod Cases
 pub mod Nodes
-pub mod NodeLaws
-pub mod Run

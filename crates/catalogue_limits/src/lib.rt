@@ -2,7 +2,7 @@
 #![tactic(auto)]
 
 ghost use Rattle.std.specs.Prelude.{◌≡◌, List, length};
-ghost use Rattle.bytes_format.specs.Layout.{list_of};
+ghost use Rattle.bytes_format.proofs.Formats.{list_of};
 ghost use Rattle.image_value.specs.Parts.{column_schema};
 ghost use Rattle.rules.specs.Lists.{all};
 ghost use Rattle.rules.specs.Tables.{ColumnSchema, TableSchema, Catalogue};

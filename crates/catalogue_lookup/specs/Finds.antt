@@ -5,7 +5,7 @@ use Rattle.std.proofs.Common.{sym, ap₂, ◌∙◌, subst, add-one, arith, leng
 use Rattle.std.proofs.Math.Path.{ap}
 use Rattle.std.proofs.Math.Option.{Option, none, some}
 use Rattle.bytes_format.specs.Format.{Format}
-use Rattle.bytes_format.specs.Layout.{list_of}
+use Rattle.bytes_format.proofs.Formats.{list_of}
 use Rattle.bytes_bundle.specs.Laws.{drop_take}
 use Rattle.image_value.specs.Parts.{column_schema}
 use Rattle.rules.specs.declared.Ordinal.{Ordinal}

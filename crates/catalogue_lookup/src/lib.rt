@@ -2,7 +2,7 @@
 #![tactic(auto)]
 
 ghost use Rattle.std.specs.Prelude.{◌≡◌, List, [], ◌+◌, ◌≤◌, ◌<◌, length, get_or};
-ghost use Rattle.bytes_format.specs.Layout.{alone, list_of};
+ghost use Rattle.bytes_format.proofs.Formats.{alone, list_of};
 ghost use Rattle.bytes_bundle.specs.Bundle.{parts_of, IsBundle};
 ghost use Rattle.image_value.specs.Parts.{column_id, column_schema};
 ghost use Rattle.text_names.specs.Compared.{named};

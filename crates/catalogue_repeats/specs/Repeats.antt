@@ -8,8 +8,8 @@ use Rattle.std.proofs.Math.Bool.{true, false, not, cond}
 use mathlib.Core.List.{List, [], ◌∷◌}
 use Rattle.bytes_format.specs.Format.{Format}
 use Rattle.bytes_format.specs.Ways.{next, each_join}
-use Rattle.bytes_format.specs.Laws.{next_some}
-use Rattle.bytes_format.specs.Layout.{alone, each, list_of}
+use Rattle.bytes_format.proofs.Laws.{next_some}
+use Rattle.bytes_format.proofs.Formats.{alone, each, list_of}
 use Rattle.bytes_bundle.specs.Bundle.{parts_of, Stepped}
 use Rattle.bytes_bundle.specs.Laws.{bundle_value}
 use Rattle.image_value.specs.Parts.{column_id}

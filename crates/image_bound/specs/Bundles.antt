@@ -11,7 +11,7 @@ use Rattle.std.proofs.Math.Seq.{drop-cons}
 use Rattle.bytes_wire.specs.Le.{le}
 use Rattle.bytes_format.specs.Format.{Format}
 use Rattle.bytes_format.specs.Ways.{joined}
-use Rattle.bytes_format.specs.Layout.{end, ◌and◌, list_of, record_of}
+use Rattle.bytes_format.proofs.Formats.{end, ◌and◌, list_of, record_of}
 
 -- ---- lists
 

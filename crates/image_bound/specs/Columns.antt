@@ -2,7 +2,7 @@
 -- Assumes nothing.
 use Rattle.std.specs.Prelude.{refl, Bool}
 use Rattle.bytes_format.specs.Format.{Format, Fixed}
-use Rattle.bytes_format.specs.Layout.{text, number, mark, via, via_field, headed, both}
+use Rattle.bytes_format.proofs.Formats.{text, number, mark, via, via_field, headed, both}
 use Rattle.image_value.specs.Parts.{column_id, table_id, data_type}
 use Rattle.rules.specs.declared.TableId.{TableId}
 use Rattle.rules.specs.declared.ColumnId.{ColumnId}

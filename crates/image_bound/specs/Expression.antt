@@ -7,9 +7,9 @@ use Rattle.std.proofs.Math.Option.{none, some}
 use Rattle.std.proofs.Math.ListN.{get_elem?}
 use Rattle.tree.specs.Tree.{Tree, leaf, un, bin}
 use Rattle.bytes_format.specs.Format.{Format, Fixed, Coded}
-use Rattle.bytes_format.specs.Layout.{mark, via, via_field, both}
-use Rattle.bytes_format.specs.Sums.{Case, case, Some, nth, made, sum, kinds}
-use Rattle.bytes_format.specs.Run.{run, labels_with}
+use Rattle.bytes_format.proofs.Formats.{mark, via, via_field, both}
+use Rattle.bytes_format.proofs.Sums.{Case, case, Some, nth, made, sum, kinds}
+use Rattle.bytes_format.proofs.Run.{run, labels_with}
 use Rattle.image_value.specs.Parts.{expression_type, operator_codes, value}
 use Rattle.rules.specs.declared.Mark.{Mark}
 use Rattle.rules.specs.declared.BoundUnaryOperator.TheVariants.{Positive, Negative, Not}

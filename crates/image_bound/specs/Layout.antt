@@ -4,8 +4,8 @@ use Rattle.std.specs.Prelude.{◌≡◌, refl, List, [], ◌∷◌, ℕ}
 use Rattle.std.proofs.Math.Option.{Option, some}
 use Rattle.bytes_wire.specs.Le.{Bytes}
 use Rattle.bytes_format.specs.Format.{Format}
-use Rattle.bytes_format.specs.Layout.{text, nothing, alone, via, optional, end, ◌and◌, list_of, record_of}
-use Rattle.bytes_format.specs.Sums.{Case, case, Some, nth, made, sum, choice}
+use Rattle.bytes_format.proofs.Formats.{text, nothing, alone, via, optional, end, ◌and◌, list_of, record_of}
+use Rattle.bytes_format.proofs.Sums.{Case, case, Some, nth, made, sum, choice}
 use Rattle.image_value.specs.Parts.{column_id, value, column_schema}
 use Rattle.rules.specs.Bound.{
   BoundCreateTable,

@@ -8,8 +8,8 @@ use Rattle.tree.specs.Tree.{leaf, un, bin, size}
 use Rattle.bytes_format.specs.Ways.{joined}
 use Rattle.bytes_format.specs.Nodes as N
 use Rattle.bytes_format.specs.Nodes.{Label, Label.un_label, Label.bin_label, Labels, nodes_of}
-use Rattle.bytes_format.specs.NodeLaws.{nodes_length}
-use Rattle.bytes_format.specs.Run.{node, labels_with}
+use Rattle.bytes_format.proofs.NodeLaws.{nodes_length}
+use Rattle.bytes_format.proofs.Run.{node, labels_with}
 use Rattle.image_value.specs.Parts.{value, operator_codes}
 use Rattle.rules.specs.declared.Mark.{Mark}
 use Rattle.rules.specs.declared.BoundBinaryOperator.{BoundBinaryOperator}

@@ -5,7 +5,7 @@ use Rattle.std.proofs.Common.{ap, ◌∙◌, arith}
 use Rattle.std.proofs.Math.Option.{none, some}
 use Rattle.std.proofs.Math.ListN.{length-append}
 use Rattle.bytes_format.specs.Format.{Format}
-use Rattle.bytes_format.specs.Layout.{alone, optional, list_of}
+use Rattle.bytes_format.proofs.Formats.{alone, optional, list_of}
 use Rattle.image_value.specs.Parts.{column_id, value, column_schema}
 use Rattle.rules.specs.Bound.{
   BoundExpr,

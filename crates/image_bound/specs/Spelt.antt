@@ -5,8 +5,8 @@ use Rattle.std.proofs.Common.{sym, ap, ◌∙◌, arith, length-take-le, get_or-
 use Rattle.std.specs.Int.{w64}
 use Rattle.bytes_wire.specs.Le.{le}
 use Rattle.bytes_format.specs.Format.{Format}
-use Rattle.bytes_format.specs.Layout.{mark, alone, list_of}
-use Rattle.bytes_format.specs.Layout as layout
+use Rattle.bytes_format.proofs.Formats.{mark, alone, list_of}
+use Rattle.bytes_format.proofs.Formats as layout
 use Rattle.image_value.specs.Parts.{column_id, data_type, value, column_numbers, column_schema}
 use Rattle.rules.specs.declared.ColumnId.{ColumnId}
 use Rattle.rules.specs.Tables.{ColumnSchema}

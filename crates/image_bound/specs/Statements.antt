@@ -1,7 +1,7 @@
 -- The bytes of each bound statement by its parts: a code, and a record of the parts.
 -- Assumes nothing.
 use Rattle.std.specs.Prelude.{◌≡◌, refl, [], ◌∷◌, ◌++◌}
-use Rattle.bytes_format.specs.Layout.{text, alone, optional, list_of}
+use Rattle.bytes_format.proofs.Formats.{text, alone, optional, list_of}
 use Rattle.image_value.specs.Parts.{column_id, value, column_schema}
 use Rattle.rules.specs.Bound.{
   BoundCreateTable,

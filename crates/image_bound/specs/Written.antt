@@ -9,7 +9,7 @@ use Rattle.bytes_wire.specs.Le.{le}
 use Rattle.bytes_wire.specs.Sets.{Wrote, then, sets_append}
 use Rattle.tree.specs.Tree.{size}
 use Rattle.bytes_format.specs.Format.{Format}
-use Rattle.bytes_format.specs.Layout.{list_of}
+use Rattle.bytes_format.proofs.Formats.{list_of}
 use Rattle.rules.specs.Bound.{BoundExpr}
 use Rattle.image_bound.specs.Expression.{bound_expression}
 use Rattle.image_bound.specs.Bundles.{lengths, bodies, list_bytes, head2, head3, record2, record3}

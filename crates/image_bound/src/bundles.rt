@@ -1,7 +1,7 @@
 // What stands before the parts of a record, and a whole list: the ids of a primary key.
 ghost use Rattle.std.specs.Prelude.{◌≡◌, List, ℕ, ◌+◌, ◌*◌, ◌≤◌, length, take};
 ghost use Rattle.bytes_wire.specs.Sets.{Wrote};
-ghost use Rattle.bytes_format.specs.Layout.{alone, list_of};
+ghost use Rattle.bytes_format.proofs.Formats.{alone, list_of};
 ghost use Rattle.image_value.specs.Parts.{column_id};
 ghost use Rattle.image_bound.specs.Bundles.{head2, head3, bodies};
 ghost use Rattle.image_bound.specs.Made.{column_ids};

@@ -3,7 +3,7 @@ ghost use Rattle.std.specs.Prelude.{◌≡◌, [], ◌∷◌, ◌++◌, ℕ, ◌
 ghost use Rattle.bytes_wire.specs.Le.{le};
 ghost use Rattle.bytes_wire.specs.Sets.{Wrote};
 ghost use Rattle.bytes_format.specs.Ways.{bool_index};
-ghost use Rattle.bytes_format.specs.Layout.{mark};
+ghost use Rattle.bytes_format.proofs.Formats.{mark};
 ghost use Rattle.image_value.specs.Parts.{column_id, data_type, data_type_no, expression_type};
 ghost use Rattle.rules.specs.Marking.{type_no};
 ghost use Rattle.image_bound.specs.Expression.{marks};

@@ -3,7 +3,7 @@
 use Rattle.std.specs.Prelude.{◌≡◌, refl, List, ℕ}
 use Rattle.std.proofs.Math.Option.{Option, some}
 use Rattle.bytes_format.specs.Format.{Format, Fixed}
-use Rattle.bytes_format.specs.Layout.{text, number, alone, via, checked, both, end, ◌and◌, list_of, record_of}
+use Rattle.bytes_format.proofs.Formats.{text, number, alone, via, checked, both, end, ◌and◌, list_of, record_of}
 use Rattle.bytes_wire.specs.Le.{Bytes}
 use Rattle.image_value.specs.Parts.{column_id, table_id, column_schema}
 use Rattle.rules.specs.declared.TableId.{TableId}

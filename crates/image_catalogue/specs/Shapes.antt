@@ -4,7 +4,7 @@ use Rattle.std.specs.Prelude.{◌≡◌, refl, Bool, List, [], ◌∷◌, ℕ, l
 use Rattle.std.proofs.Common.{◌∙◌}
 use Rattle.std.proofs.Math.Bool.{and-true}
 use Rattle.bytes_format.specs.Format.{Enum}
-use Rattle.bytes_format.specs.Layout.{text, alone, bools, list_of, end, ◌and◌}
+use Rattle.bytes_format.proofs.Formats.{text, alone, bools, list_of, end, ◌and◌}
 use Rattle.bytes_utf8.specs.Decide.{is_utf8}
 use Rattle.bytes_bundle.specs.Bundle.{is_there, parts_of, is_record}
 use Rattle.bytes_bundle.specs.Decides.{Decides}

@@ -8,7 +8,7 @@ use Rattle.bytes_wire.specs.Le.{num}
 use Rattle.bytes_utf8.specs.Decide.{is_utf8}
 use Rattle.bytes_format.specs.Format.{Fixed}
 use Rattle.bytes_format.specs.Ways.{next}
-use Rattle.bytes_format.specs.Layout.{text, alone, bools, list_of}
+use Rattle.bytes_format.proofs.Formats.{text, alone, bools, list_of}
 use Rattle.bytes_bundle.specs.Bundle.{parts_of, IsBundle, IsRecord}
 use Rattle.bytes_bundle.specs.Laws.{via_record_value, via_record_there}
 use Rattle.bytes_bundle.specs.Fields.{Spot, code_spot, both_spot, both_look, field_value, checked_value}

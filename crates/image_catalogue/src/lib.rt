@@ -2,7 +2,7 @@
 #![tactic(auto)]
 
 ghost use Rattle.std.specs.Prelude.{◌≡◌};
-ghost use Rattle.bytes_format.specs.Layout.{alone, list_of};
+ghost use Rattle.bytes_format.proofs.Formats.{alone, list_of};
 ghost use Rattle.bytes_bundle.specs.Bundle.{is_there};
 ghost use Rattle.image_value.specs.Parts.{column_id, column_numbers, column_schema};
 ghost use Rattle.rules.specs.Tables.{ColumnSchema, TableSchema};

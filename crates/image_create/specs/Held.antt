@@ -3,7 +3,7 @@
 use Rattle.std.specs.Prelude.{◌≡◌, refl, Bool, true, false, ◌⊎◌, List, [], ℕ, ◌<◌, length, drop, get_or, eqb}
 use Rattle.std.proofs.Common.{◌∙◌, ap, subst₂, inl, inr, arith}
 use Rattle.std.proofs.Math.Option.{some}
-use Rattle.bytes_format.specs.Layout.{alone, mark, bools, both, headed, list_of}
+use Rattle.bytes_format.proofs.Formats.{alone, mark, bools, both, headed, list_of}
 use Rattle.bytes_bundle.specs.Bundle.{parts_of, IsRecord}
 use Rattle.bytes_bundle.specs.Laws.{some_there, via_record_there, via_record_value}
 use Rattle.bytes_bundle.specs.Fields.{code_spot, both_spot, field_value}

@@ -3,7 +3,7 @@
 use Rattle.std.specs.Prelude.{refl, List, [], ◌∷◌, ℕ, length, drop, get_or, ltb, eqb}
 use Rattle.std.proofs.Common.{◌∙◌}
 use Rattle.bytes_format.specs.Format.{Enum}
-use Rattle.bytes_format.specs.Layout.{alone, mark, bools, both, headed, list_of, end, ◌and◌}
+use Rattle.bytes_format.proofs.Formats.{alone, mark, bools, both, headed, list_of, end, ◌and◌}
 use Rattle.bytes_bundle.specs.Bundle.{is_there}
 use Rattle.bytes_bundle.specs.Decides.{Decides}
 use Rattle.bytes_bundle.specs.Laws.{Places, part, part_as, done, record_tests, via_record_decided, there_next}

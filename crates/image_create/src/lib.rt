@@ -2,7 +2,7 @@
 #![tactic(auto)]
 
 ghost use Rattle.std.specs.Prelude.{◌≡◌, Bool, List};
-ghost use Rattle.bytes_format.specs.Layout.{alone, mark, headed, list_of};
+ghost use Rattle.bytes_format.proofs.Formats.{alone, mark, headed, list_of};
 ghost use Rattle.bytes_bundle.specs.Bundle.{is_there};
 ghost use Rattle.rules.specs.Statements.{Name, ColumnOption, ColumnDefinition, Constraint, primary_key, CreateTable};
 ghost use Rattle.image_parts.specs.Layout.{name, object_name, option, option_kind_no, column_type, column_type_no, column_definition, constraint, create};

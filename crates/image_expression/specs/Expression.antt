@@ -6,9 +6,9 @@ use Rattle.std.proofs.Math.Option.{none, some}
 use Rattle.std.proofs.Common.{inl, inr}
 use Rattle.std.proofs.Math.ListN.{get_elem?}
 use Rattle.bytes_format.specs.Format.{Format, Coded}
-use Rattle.bytes_format.specs.Layout.{text, nothing}
-use Rattle.bytes_format.specs.Sums.{Case, case, Some, nth, made, sum, kinds, either, recode}
-use Rattle.bytes_format.specs.Run.{run, labels}
+use Rattle.bytes_format.proofs.Formats.{text, nothing}
+use Rattle.bytes_format.proofs.Sums.{Case, case, Some, nth, made, sum, kinds, either, recode}
+use Rattle.bytes_format.proofs.Run.{run, labels}
 use Rattle.image_value.specs.Parts.{operator_codes}
 use Rattle.rules.specs.declared.BoundUnaryOperator.TheVariants.{Positive, Negative, Not}
 use Rattle.rules.specs.declared.BoundBinaryOperator.{BoundBinaryOperator}

@@ -5,7 +5,7 @@ use Rattle.std.specs.Prelude.{◌≡◌, refl, Bool, true, false, cond, ◌&&◌
 use Rattle.std.proofs.Common.{sym, ap, subst, ⊎_elim, not-suc-le-zero, le_of_suc-le-suc, eq-or-lt_of_le, arith, eqb→eq, lit<, lit≤, le-ltb}
 use Rattle.bytes_utf8.specs.Decide.{is_utf8}
 use Rattle.bytes_format.specs.Nodes.{Labels, Label, Label.leaf_label, Label.un_label, Label.bin_label}
-use Rattle.bytes_format.specs.Run.{labels}
+use Rattle.bytes_format.proofs.Run.{labels}
 use Rattle.rules.specs.declared.BoundUnaryOperator.TheVariants.{Positive, Negative, Not}
 use Rattle.rules.specs.declared.BoundBinaryOperator.{BoundBinaryOperator}
 use Rattle.rules.specs.declared.BoundBinaryOperator.TheVariants as op

@@ -11,10 +11,10 @@ use Rattle.bytes_wire.specs.Le.{Bytes}
 use Rattle.bytes_utf8.specs.Decide.{is_utf8}
 use Rattle.tree.specs.Tree.{size}
 use Rattle.bytes_format.specs.Ways.{next}
-use Rattle.bytes_format.specs.Laws.{next_some}
+use Rattle.bytes_format.proofs.Laws.{next_some}
 use Rattle.bytes_format.specs.Nodes.{nodes_of, labels_of, tree_of, run_read}
-use Rattle.bytes_format.specs.NodeLaws.{nodes_length, tree_there, tree_back}
-use Rattle.bytes_format.specs.Run.{node_list}
+use Rattle.bytes_format.proofs.NodeLaws.{nodes_length, tree_there, tree_back}
+use Rattle.bytes_format.proofs.Run.{node_list}
 use Rattle.rules.specs.Statements.{Expr}
 use Rattle.image_expression.specs.Expression.{expression}
 use Rattle.image_expression.specs.Place.{Node, node_count, node_at, IsExpression}

@@ -14,11 +14,11 @@ use borrow.Author.Tests.{le-leb, eq-eqb, eqb-true, leb-true, leb-false}
 use Rattle.bytes_wire.specs.Le.{Bytes, num, take_bytes, drop_bytes, cons_bytes}
 use Rattle.bytes_format.specs.Format.{Format, Fixed}
 use Rattle.bytes_format.specs.Ways.{next, joined, number_read, headed_read, row_read, cut_read}
-use Rattle.bytes_format.specs.Laws.{cond_some, next_some, row_back, row_wide}
-use Rattle.bytes_format.specs.Layout.{number, row, headed}
+use Rattle.bytes_format.proofs.Laws.{cond_some, next_some, row_back, row_wide}
+use Rattle.bytes_format.proofs.Formats.{number, row, headed}
 use Rattle.bytes_format.specs.Nodes.{sums, steps, cut_at_read, mend}
-use Rattle.bytes_format.specs.NodeLaws.{cut_at_back}
-use Rattle.bytes_format.specs.Run.{node, cut_at, node_list}
+use Rattle.bytes_format.proofs.NodeLaws.{cut_at_back}
+use Rattle.bytes_format.proofs.Run.{node, cut_at, node_list}
 use Rattle.image_expression.specs.Place.{Node, node_count, end_at, start_at, node_at, behind, all_there, AllThere, Room, Content}
 
 -- ---- well laid

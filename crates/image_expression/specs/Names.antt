@@ -8,7 +8,7 @@ use Rattle.std.proofs.Math.Decide.{dec_lt}
 use Rattle.bytes_wire.specs.Le.{Bytes}
 use Rattle.tree.specs.Tree.{leaf, un, bin, size}
 use Rattle.bytes_format.specs.Nodes.{Label.leaf_label, Label.un_label, Label.bin_label, nodes_of}
-use Rattle.bytes_format.specs.NodeLaws.{nodes_length}
+use Rattle.bytes_format.proofs.NodeLaws.{nodes_length}
 use Rattle.rules.specs.Lists.{all, any}
 use Rattle.rules.specs.Limits.{leaf_names, expression_names, name_within}
 use Rattle.rules.specs.Names.{beyond_ascii}

@@ -11,7 +11,7 @@ use Rattle.std.proofs.Math.Decide.{dec_lt}
 use Rattle.std.proofs.Math.ListN.{length, length-append}
 use Rattle.tree.specs.Tree.{leaf, un, bin, size}
 use Rattle.bytes_format.specs.Nodes.{Label.un_label, Label.bin_label, nodes_of}
-use Rattle.bytes_format.specs.NodeLaws.{nodes_length}
+use Rattle.bytes_format.proofs.NodeLaws.{nodes_length}
 use Rattle.rules.specs.Statements.{Unary, Binary, Expr}
 use Rattle.image_expression.specs.Place.{Node, leaf_kind, leaf_text, un_kind, bin_kind, un_of, bin_of, top, Root, HasTree}
 use Rattle.image_expression.specs.Heads.{Head, head_kind, head_text, leaf_of_lem, un_of_lem, bin_of_lem, leaf_range, un_range, bin_range}

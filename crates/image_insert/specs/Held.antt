@@ -4,7 +4,7 @@ use Rattle.std.specs.Prelude.{◌≡◌, refl, Bool, true, false, not, ◌⊎◌
 use Rattle.std.proofs.Common.{◌∙◌, ap, subst₂, inl, inr, arith}
 use Rattle.std.proofs.Math.Option.{some}
 use Rattle.bytes_format.specs.Ways.{optional_read}
-use Rattle.bytes_format.specs.Layout.{list_of}
+use Rattle.bytes_format.proofs.Formats.{list_of}
 use Rattle.bytes_bundle.specs.Bundle.{is_there, parts_of, IsRecord}
 use Rattle.bytes_bundle.specs.Laws.{some_there, via_record_there, via_record_value}
 use Rattle.bytes_bundle.specs.Values.{

@@ -5,7 +5,7 @@ use Rattle.std.proofs.Common.{sym, arith}
 use Rattle.std.proofs.Math.Option.{none}
 use Rattle.bytes_format.specs.Format.{Format}
 use Rattle.bytes_format.specs.Ways.{optional_read}
-use Rattle.bytes_format.specs.Layout.{alone, mark, headed, optional, list_of, end, ◌and◌}
+use Rattle.bytes_format.proofs.Formats.{alone, mark, headed, optional, list_of, end, ◌and◌}
 use Rattle.bytes_bundle.specs.Bundle.{is_there}
 use Rattle.bytes_bundle.specs.Decides.{Decides}
 use Rattle.bytes_bundle.specs.Laws.{Places, part, part_as, done, record_tests, via_record_decided}

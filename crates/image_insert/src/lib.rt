@@ -4,7 +4,7 @@
 ghost use Rattle.std.specs.Prelude.{◌≡◌, Bool, List};
 ghost use Rattle.std.proofs.Math.Option.{some};
 ghost use Rattle.bytes_format.specs.Ways.{optional_read};
-ghost use Rattle.bytes_format.specs.Layout.{list_of};
+ghost use Rattle.bytes_format.proofs.Formats.{list_of};
 ghost use Rattle.bytes_bundle.specs.Bundle.{is_there};
 ghost use Rattle.image_expression.specs.Expression.{expression};
 ghost use Rattle.rules.specs.Statements.{Expr, SourceBody, values, Source, Insert};

@@ -6,8 +6,8 @@ use Rattle.std.proofs.Math.Option.{Option, some}
 use Rattle.std.proofs.Math.ListN.{get_elem?}
 use Rattle.bytes_wire.specs.Le.{Bytes}
 use Rattle.bytes_format.specs.Format.{Format, Fixed}
-use Rattle.bytes_format.specs.Layout.{text, nothing, code, mark, alone, via, headed, both, optional, end, ◌and◌, list_of, record_of}
-use Rattle.bytes_format.specs.Sums.{Case, case, Some, nth, made, sum, choice}
+use Rattle.bytes_format.proofs.Formats.{text, nothing, code, mark, alone, via, headed, both, optional, end, ◌and◌, list_of, record_of}
+use Rattle.bytes_format.proofs.Sums.{Case, case, Some, nth, made, sum, choice}
 use Rattle.rules.specs.declared.DataType.TheVariants as data-type
 use Rattle.rules.specs.Statements.{
   Name,

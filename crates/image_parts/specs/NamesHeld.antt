@@ -4,7 +4,7 @@ use Rattle.std.specs.Prelude.{◌≡◌, refl, Bool, true, false, not, cond, Lis
 use Rattle.std.proofs.Common.{subst, arith}
 use Rattle.std.proofs.Math.Option.{Option, some, none, some-injective, none-ne-some}
 use Rattle.bytes_format.specs.Ways.{some_code}
-use Rattle.bytes_format.specs.Layout.{text}
+use Rattle.bytes_format.proofs.Formats.{text}
 use Rattle.bytes_utf8.specs.Decide.{is_utf8}
 use Rattle.bytes_bundle.specs.Bundle.{is_there}
 use Rattle.bytes_bundle.specs.Laws.{some_there}

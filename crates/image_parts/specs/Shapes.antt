@@ -3,7 +3,7 @@
 use Rattle.std.specs.Prelude.{◌≡◌, refl, Bool, true, List, [], ◌∷◌, ℕ, length, drop}
 use Rattle.std.proofs.Common.{sym, ◌∙◌, arith}
 use Rattle.bytes_format.specs.Format.{Format}
-use Rattle.bytes_format.specs.Layout.{text, mark, headed}
+use Rattle.bytes_format.proofs.Formats.{text, mark, headed}
 use Rattle.bytes_utf8.specs.Decide.{is_utf8}
 use Rattle.rules.specs.Statements.{ObjectName}
 use Rattle.image_expression.specs.Expression.{expression, expression_not_empty}

@@ -1,6 +1,6 @@
 // Names, and what may stand in a name's place.
 ghost use Rattle.std.specs.Prelude.{◌≡◌};
-ghost use Rattle.bytes_format.specs.Layout.{list_of};
+ghost use Rattle.bytes_format.proofs.Formats.{list_of};
 ghost use Rattle.bytes_bundle.specs.Bundle.{is_there};
 ghost use Rattle.image_parts.specs.Layout.{name, object_name};
 ghost use Rattle.rules.specs.Statements.{Name, ObjectName, plain};

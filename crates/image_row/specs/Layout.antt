@@ -3,7 +3,7 @@
 use Rattle.std.specs.Prelude.{◌≡◌, List, ℕ}
 use Rattle.std.proofs.Math.Option.{Option, some}
 use Rattle.bytes_format.specs.Format.{Format}
-use Rattle.bytes_format.specs.Layout.{list_of}
+use Rattle.bytes_format.proofs.Formats.{list_of}
 use Rattle.bytes_wire.specs.Le.{Bytes}
 use Rattle.image_value.specs.Parts.{value}
 use Rattle.rules.specs.Rows.{Row}

@@ -11,7 +11,7 @@ use Rattle.std.proofs.Math.Numerals.{add-one}
 use Rattle.std.proofs.Math.Dec.{eqb}
 use Rattle.bytes_wire.specs.Le.{Bytes}
 use Rattle.bytes_format.specs.Ways.{next, each_join}
-use Rattle.bytes_format.specs.Layout.{pieces, each}
+use Rattle.bytes_format.proofs.Formats.{pieces, each}
 use Rattle.bytes_bundle.specs.Bundle.{is_there, parts_of, IsBundle, is_record, Stepped}
 use Rattle.bytes_bundle.specs.Decides.{and_of}
 use Rattle.bytes_bundle.specs.Fields.{passing, not_passing}

@@ -1,6 +1,6 @@
 // A row's values beside a table's columns.
 ghost use Rattle.std.specs.Prelude.{◌≡◌, List};
-ghost use Rattle.bytes_format.specs.Layout.{list_of};
+ghost use Rattle.bytes_format.proofs.Formats.{list_of};
 ghost use Rattle.bytes_bundle.specs.Held.{Holds, Is};
 ghost use Rattle.image_value.specs.Parts.{column_schema};
 ghost use Rattle.rules.specs.Tables.{ColumnSchema};

@@ -3,7 +3,7 @@
 use Rattle.std.specs.Prelude.{◌≡◌, refl, List, [], ℕ, ◌<◌, length, get_or}
 use Rattle.std.proofs.Common.{subst}
 use Rattle.bytes_format.specs.Ways.{some_code}
-use Rattle.bytes_format.specs.Layout.{list_of}
+use Rattle.bytes_format.proofs.Formats.{list_of}
 use Rattle.bytes_bundle.specs.Bundle.{parts_of, IsRecord}
 use Rattle.bytes_bundle.specs.Laws.{some_there, via_record_there, via_record_value}
 use Rattle.bytes_bundle.specs.Values.{LoneMark, lone_mark, MarkedHas, via_marked_value}

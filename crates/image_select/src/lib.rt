@@ -2,7 +2,7 @@
 #![tactic(auto)]
 
 ghost use Rattle.std.specs.Prelude.{◌≡◌};
-ghost use Rattle.bytes_format.specs.Layout.{list_of};
+ghost use Rattle.bytes_format.proofs.Formats.{list_of};
 ghost use Rattle.bytes_bundle.specs.Bundle.{is_there};
 ghost use Rattle.image_parts.specs.Layout.{name, table_with_joins, item, select_from, condition, select, query_body, selection};
 ghost use Rattle.rules.specs.Statements.{Name, TableWithJoins, Item, column, From, one, Select, QueryBody, plain_select, Query};

@@ -3,7 +3,7 @@
 use Rattle.std.specs.Prelude.{◌≡◌, refl, Bool, List, [], ℕ, ◌<◌, length, drop, get_or, eqb}
 use Rattle.std.proofs.Common.{subst}
 use Rattle.bytes_format.specs.Ways.{some_code}
-use Rattle.bytes_format.specs.Layout.{nothing, mark, both, alone}
+use Rattle.bytes_format.proofs.Formats.{nothing, mark, both, alone}
 use Rattle.bytes_bundle.specs.Bundle.{parts_of, IsRecord}
 use Rattle.bytes_bundle.specs.Laws.{some_there, via_record_there, via_record_value}
 use Rattle.bytes_bundle.specs.Fields.{both_spot, field_value}

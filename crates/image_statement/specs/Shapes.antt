@@ -1,7 +1,7 @@
 -- Whether bytes are a statement, or what is behind its raw text: a test for each thing that the code looks at.
 -- Assumes nothing.
 use Rattle.std.specs.Prelude.{refl, List, ℕ}
-use Rattle.bytes_format.specs.Layout.{text, end, ◌and◌}
+use Rattle.bytes_format.proofs.Formats.{text, end, ◌and◌}
 use Rattle.bytes_utf8.specs.Decide.{is_utf8}
 use Rattle.bytes_bundle.specs.Bundle.{is_there}
 use Rattle.bytes_bundle.specs.Decides.{Decides}

@@ -4,7 +4,7 @@
 ghost use Rattle.std.specs.Prelude.{◌≡◌, Bool};
 ghost use Rattle.bytes_bundle.specs.Bundle.{is_there};
 ghost use Rattle.image_parts.specs.Layout.{kind, statement};
-ghost use Rattle.bytes_format.specs.Layout.{mark, both, alone};
+ghost use Rattle.bytes_format.proofs.Formats.{mark, both, alone};
 ghost use Rattle.rules.specs.Statements.{Statement};
 ghost use Rattle.bytes_bundle.specs.Held.{Is, Holds};
 ghost use Rattle.image_statement.specs.Held.{kind_no, KindHolds};

@@ -4,7 +4,7 @@ use Rattle.std.specs.Prelude.{◌≡◌, refl, List, [], ℕ, ◌<◌, length, g
 use Rattle.std.proofs.Common.{subst}
 use Rattle.std.proofs.Math.Option.{some}
 use Rattle.bytes_format.specs.Ways.{some_code}
-use Rattle.bytes_format.specs.Layout.{mark, both, alone, list_of}
+use Rattle.bytes_format.proofs.Formats.{mark, both, alone, list_of}
 use Rattle.bytes_bundle.specs.Bundle.{parts_of, IsRecord}
 use Rattle.bytes_bundle.specs.Laws.{some_there, via_record_there, via_record_value}
 use Rattle.bytes_bundle.specs.Fields.{both_spot, field_value}

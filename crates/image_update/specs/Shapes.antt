@@ -1,7 +1,7 @@
 -- Whether bytes are an UPDATE or a part of it: a test for each thing that the code looks at.
 -- Assumes nothing.
 use Rattle.std.specs.Prelude.{refl, List, ℕ}
-use Rattle.bytes_format.specs.Layout.{mark, alone, both, end, ◌and◌, list_of}
+use Rattle.bytes_format.proofs.Formats.{mark, alone, both, end, ◌and◌, list_of}
 use Rattle.image_expression.specs.Expression.{expression}
 use Rattle.bytes_bundle.specs.Bundle.{is_there}
 use Rattle.bytes_bundle.specs.Decides.{Decides}

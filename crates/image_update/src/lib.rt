@@ -2,7 +2,7 @@
 #![tactic(auto)]
 
 ghost use Rattle.std.specs.Prelude.{◌≡◌};
-ghost use Rattle.bytes_format.specs.Layout.{list_of};
+ghost use Rattle.bytes_format.proofs.Formats.{list_of};
 ghost use Rattle.bytes_bundle.specs.Bundle.{is_there};
 ghost use Rattle.image_parts.specs.Layout.{object_name, table_with_joins, condition, assignment_target, assignment, updating};
 ghost use Rattle.image_expression.specs.Expression.{expression};

@@ -4,8 +4,8 @@ use Rattle.std.specs.Prelude.{◌≡◌, refl, Bool, List, [], ◌∷◌, ℕ}
 use Rattle.std.proofs.Math.Option.{some}
 use Rattle.std.proofs.Math.ListN.{get_elem?}
 use Rattle.bytes_format.specs.Format.{Format, Fixed, Coded}
-use Rattle.bytes_format.specs.Layout.{text, nothing, number, code, mark, alone, int64, via, via_field, both, end, ◌and◌, record_of}
-use Rattle.bytes_format.specs.Sums.{Case, case, Some, nth, made, sum, kinds, choice}
+use Rattle.bytes_format.proofs.Formats.{text, nothing, number, code, mark, alone, int64, via, via_field, both, end, ◌and◌, record_of}
+use Rattle.bytes_format.proofs.Sums.{Case, case, Some, nth, made, sum, kinds, choice}
 use Rattle.rules.specs.declared.TableId.{TableId}
 use Rattle.rules.specs.declared.ColumnId.{ColumnId}
 use Rattle.rules.specs.declared.DataType.{DataType}

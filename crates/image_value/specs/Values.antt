@@ -10,7 +10,7 @@ use Rattle.std.specs.Int.Signed.{mag}
 use Rattle.std.specs.Int.{w64}
 use Rattle.bytes_wire.specs.Le.{Bytes, num}
 use Rattle.bytes_format.specs.Ways.{some_code}
-use Rattle.bytes_format.specs.Layout.{alone, mark, int64}
+use Rattle.bytes_format.proofs.Formats.{alone, mark, int64}
 use Rattle.bytes_bundle.specs.Bundle.{is_there}
 use Rattle.bytes_bundle.specs.Cases.{ChoiceHas, choice_has}
 use Rattle.bytes_bundle.specs.Decides.{Decides}

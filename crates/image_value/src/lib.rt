@@ -4,7 +4,7 @@
 ghost use Rattle.std.specs.Prelude.{◌≡◌, Bool, ℤ};
 ghost use Rattle.std.specs.Int.{w64};
 ghost use Rattle.std.proofs.Common.{to_z};
-ghost use Rattle.bytes_format.specs.Layout.{alone, mark};
+ghost use Rattle.bytes_format.proofs.Formats.{alone, mark};
 ghost use Rattle.bytes_bundle.specs.Bundle.{is_there};
 ghost use Rattle.bytes_bundle.specs.Held.{Is, Holds, Shows};
 ghost use Rattle.rules.specs.Bound.{Value, Value.int, Value.text, Value.bool};

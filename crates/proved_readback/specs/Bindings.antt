@@ -14,7 +14,7 @@ use Rattle.bytes_utf8.specs.Decide.{is_utf8}
 use Rattle.bytes_format.specs.Format.{Every}
 use Rattle.bytes_format.specs.Nodes as N
 use Rattle.bytes_format.specs.Nodes.{Label, Label.leaf_label, Labels}
-use Rattle.bytes_format.specs.Run.{labels_with}
+use Rattle.bytes_format.proofs.Run.{labels_with}
 use Rattle.image_value.specs.Parts.{value, column_schema, operator_codes}
 use Rattle.image_catalogue.specs.Layout as catalogue
 use Rattle.image_bound.specs.Columns.{bound_table_ref, bound_column_ref}

@@ -8,7 +8,7 @@ use mathlib.Core.List.{List, [], ◌∷◌, ◌++◌}
 use Rattle.std.proofs.Math.Option.{Option, none, some}
 use Rattle.tree.specs.Tree.{leaf, un, bin}
 use Rattle.bytes_format.specs.Format.{Every}
-use Rattle.bytes_format.specs.Layout.{list_of}
+use Rattle.bytes_format.proofs.Formats.{list_of}
 use Rattle.bytes_format.specs.Nodes.{Label.leaf_label}
 use Rattle.bytes_format.specs.Ways.{OptionalOk}
 use Rattle.image_value.specs.Parts.{value}

@@ -4,7 +4,7 @@ use Rattle.std.specs.Prelude.{◌≡◌, true, ◌^◌, ◌<◌, length}
 use Rattle.std.proofs.Common.{arith}
 use Rattle.bytes_utf8.specs.Decide.{is_utf8}
 use Rattle.bytes_format.specs.Format.{Every}
-use Rattle.bytes_format.specs.Layout.{text, alone, optional, list_of}
+use Rattle.bytes_format.proofs.Formats.{text, alone, optional, list_of}
 use Rattle.image_value.specs.Parts.{column_id, value, column_numbers, column_schema}
 use Rattle.image_bound.specs.Columns.{bound_table_ref, bound_column_ref}
 use Rattle.image_bound.specs.Expression.{bound_expression, bound_expression_not_empty}

@@ -8,7 +8,7 @@ use Rattle.std.proofs.lemmas.List.{length-map}
 use Rattle.bytes_wire.specs.Le.{le}
 use Rattle.bytes_format.specs.Format.{Format, Parts, Every}
 use Rattle.bytes_format.specs.Ways.{joined, row_write}
-use Rattle.bytes_format.specs.Layout.{number, end, ◌and◌, each, pieces, bundle, optional, list_of, record_of}
+use Rattle.bytes_format.proofs.Formats.{number, end, ◌and◌, each, pieces, bundle, optional, list_of, record_of}
 
 -- 2 ^ 32
 abbrev pub limit : ℕ

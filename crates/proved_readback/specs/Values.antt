@@ -10,7 +10,7 @@ use Rattle.bytes_utf8.specs.Decide.{is_utf8}
 use Rattle.bytes_format.specs.Format.{Every}
 use Rattle.bytes_format.specs.Nodes as N
 use Rattle.bytes_format.specs.Nodes.{Label, Labels}
-use Rattle.bytes_format.specs.Run.{labels}
+use Rattle.bytes_format.proofs.Run.{labels}
 use Rattle.image_value.specs.Parts.{value}
 use Rattle.image_expression.specs.Expression.{expression, leaf_codes, unary_codes, binary_codes}
 use Rattle.image_bound.specs.Spelt as spelt

@@ -3,7 +3,7 @@
 use Rattle.std.specs.Prelude.{◌≡◌, refl, true, false, List, [], ◌∷◌, ℕ, ◌+◌, ◌-◌, ◌≤◌, length, take, drop, set, replicate}
 use Rattle.std.proofs.Common.{sym, ap, ◌∙◌, arith, drop_of_length-le}
 use Rattle.std.proofs.Math.Option.{Option, none, some}
-use Rattle.bytes_format.specs.Layout.{list_of}
+use Rattle.bytes_format.proofs.Formats.{list_of}
 use Rattle.bytes_format.specs.Ways.{next}
 use Rattle.bytes_bundle.specs.Bundle.{Stepped}
 use Rattle.bytes_bundle.specs.Held.{Holds, list_count, Along, turn}

@@ -5,7 +5,7 @@ use Rattle.std.proofs.Common.{sym, ap, ◌∙◌, subst, arith, length-drop}
 use Rattle.std.proofs.Math.Option.{some, some-injective}
 use Rattle.bytes_wire.specs.Le.{Bytes}
 use Rattle.bytes_wire.specs.Sets.{Wrote}
-use Rattle.bytes_format.specs.Layout.{list_of}
+use Rattle.bytes_format.proofs.Formats.{list_of}
 use Rattle.bytes_bundle.specs.Bundle.{parts_of}
 use Rattle.bytes_bundle.specs.Decides.{and_of}
 use Rattle.bytes_bundle.specs.Held.{Is, Holds, held, held_once, is_held, list_count}

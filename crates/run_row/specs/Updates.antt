@@ -5,7 +5,7 @@ use Rattle.std.proofs.Common.{sym, ap, ◌∙◌, subst, arith}
 use Rattle.std.proofs.Math.Bool.{true, false}
 use Rattle.std.proofs.Math.Option.{none, some, none-ne-some, some-injective}
 use Rattle.bytes_wire.specs.Le.{Bytes}
-use Rattle.bytes_format.specs.Layout.{list_of}
+use Rattle.bytes_format.proofs.Formats.{list_of}
 use Rattle.bytes_format.specs.Ways.{next}
 use Rattle.bytes_bundle.specs.Held.{Holds, held}
 use Rattle.image_catalogue.specs.Layout.{table}

@@ -3,7 +3,7 @@
 use Rattle.std.specs.Prelude.{◌≡◌, refl, true, List, ℕ, ◌≤◌, ◌<◌, length}
 use Rattle.std.proofs.Common.{sym, ◌∙◌, arith}
 use Rattle.bytes_wire.specs.Sets.{Wrote}
-use Rattle.bytes_format.specs.Layout.{list_of}
+use Rattle.bytes_format.proofs.Formats.{list_of}
 use Rattle.bytes_bundle.specs.Held.{Holds, held}
 use Rattle.image_catalogue.specs.Layout.{table}
 use Rattle.image_expression.specs.Expression.{expression}

@@ -2,7 +2,7 @@
 -- Assumes nothing.
 use Rattle.std.specs.Prelude.{Bool, false, List, map}
 use Rattle.bytes_format.specs.Format.{Format}
-use Rattle.bytes_format.specs.Layout.{list_of}
+use Rattle.bytes_format.proofs.Formats.{list_of}
 use Rattle.bytes_bundle.specs.Looks.{Looks}
 use Rattle.image_expression.specs.Expression.{expression}
 use Rattle.rules.specs.Names.{beyond_ascii}

@@ -1,7 +1,7 @@
 // Lists of every kind, each walked to its first entry with such a name. A list within another has a walk of its own,
 // so that none calls itself.
 ghost use Rattle.std.specs.Prelude.{◌≡◌, List};
-ghost use Rattle.bytes_format.specs.Layout.{list_of};
+ghost use Rattle.bytes_format.proofs.Formats.{list_of};
 ghost use Rattle.bytes_bundle.specs.Held.{Is, Holds};
 ghost use Rattle.statement_ascii.specs.Kinds.{Entry, form, entry_beyond, list_beyond, Outer, outer_form, outer_beyond, nest_beyond};
 

@@ -2,7 +2,7 @@
 -- Assumes nothing.
 use Rattle.std.specs.Prelude.{Bool, List}
 use Rattle.bytes_format.specs.Format.{Format}
-use Rattle.bytes_format.specs.Layout.{list_of}
+use Rattle.bytes_format.proofs.Formats.{list_of}
 use Rattle.rules.specs.Statements.{Name, Expr, ColumnDefinition, Constraint, Item, Assignment}
 use Rattle.image_expression.specs.Expression.{expression}
 use Rattle.image_expression.specs.Names.{Within}

@@ -6,7 +6,7 @@ use Rattle.std.proofs.Common.{◌∙◌, le-leb}
 use Rattle.std.proofs.Math.Bool.{and-false}
 use Rattle.std.proofs.lemmas.Bool.{lt-leb}
 use Rattle.bytes_format.specs.Format.{Format}
-use Rattle.bytes_format.specs.Layout.{list_of}
+use Rattle.bytes_format.proofs.Formats.{list_of}
 use Rattle.bytes_bundle.specs.Bundle.{parts_of, Stepped}
 use Rattle.bytes_bundle.specs.Held.{Holds, list_count}
 use Rattle.bytes_bundle.specs.Looks.{Looks, Looking, looks_stop, looks_end}

@@ -1,6 +1,6 @@
 // The lists of a statement, whose entries may hold a list of their own: how many entries, and each within the top sizes.
 ghost use Rattle.std.specs.Prelude.{◌≡◌, List};
-ghost use Rattle.bytes_format.specs.Layout.{list_of};
+ghost use Rattle.bytes_format.proofs.Formats.{list_of};
 ghost use Rattle.bytes_bundle.specs.Held.{Is, Holds};
 ghost use Rattle.image_expression.specs.Names.{Within};
 ghost use Rattle.rules.specs.Lists.{all};

@@ -1,7 +1,7 @@
 // The lists that stand innermost, of names and of a row's values: at most 64 entries, each within the top sizes.
 // Their loop is apart from that of crate::entries, whose entries hold such lists: one loop for both would call itself.
 ghost use Rattle.std.specs.Prelude.{◌≡◌, List};
-ghost use Rattle.bytes_format.specs.Layout.{list_of};
+ghost use Rattle.bytes_format.proofs.Formats.{list_of};
 ghost use Rattle.bytes_bundle.specs.Held.{Is, Holds};
 ghost use Rattle.statement_limits.specs.Within.{list_within};
 ghost use Rattle.statement_limits.specs.Kinds.{Leaf, leaf_form, leaf_within};

@@ -11,7 +11,7 @@ use lib.Dec.{eqb}
 use borrow.Author.Tests.{ne_eqb, eqb-true, eqb-false}
 use lib.ListN.{length, get_or, take, drop, set, replicate, drop_of_length-le, length-drop, length-set, get_or-replicate}
 use lib.Seq.{take-suc, take-suc-set, length-take-le, get_or-set_same, get_or-set_other}
-use Rattle.bytes_format.specs.Layout.{list_of}
+use Rattle.bytes_format.proofs.Formats.{list_of}
 use Rattle.bytes_bundle.specs.Held.{Holds, held, list_count}
 use Rattle.bind_repeats.specs.Repeats.{drop_next}
 use Rattle.bind_repeats.specs.Entries.{ShortIn}

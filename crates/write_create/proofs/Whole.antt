@@ -9,7 +9,7 @@ use native.Mathlib.Omega.{arith}
 use borrow.Author.Tests.{leb-true}
 use lib.ListN.{length}
 use Rattle.bytes_wire.specs.Sets.{Wrote, then}
-use Rattle.bytes_format.specs.Layout.{alone, list_of}
+use Rattle.bytes_format.proofs.Formats.{alone, list_of}
 use Rattle.image_value.specs.Parts.{column_id, column_schema}
 use Rattle.image_bound.specs.Layout.{bound_statement, create_table}
 use Rattle.image_bound.specs.Bundles.{head3, head3_length}

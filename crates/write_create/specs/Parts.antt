@@ -2,7 +2,7 @@
 -- Assumes nothing: these are definitions.
 use Rattle.std.specs.Prelude.{◌≡◌, Bool, false, ◌||◌, List, map, ℕ, ◌+◌, ◌*◌, ◌≤◌, ◌<◌, length, get_or}
 use Rattle.std.proofs.Math.Option.{Option, some}
-use Rattle.bytes_format.specs.Layout.{list_of}
+use Rattle.bytes_format.proofs.Formats.{list_of}
 use Rattle.bytes_bundle.specs.Held.{Holds}
 use Rattle.image_parts.specs.Layout.{object_name, column_definition, create}
 use Rattle.rules.specs.declared.ColumnId.{ColumnId}

@@ -4,7 +4,7 @@ use Rattle.std.specs.Prelude.{◌≡◌, refl, Bool, true, false, List, [], ◌�
 use Rattle.std.proofs.Common.{sym, ap, ◌∙◌, subst, arith}
 use Rattle.std.proofs.Math.Option.{Option, some, some-injective}
 use Rattle.bytes_wire.specs.Sets.{Wrote}
-use Rattle.bytes_format.specs.Layout.{list_of}
+use Rattle.bytes_format.proofs.Formats.{list_of}
 use Rattle.bytes_bundle.specs.Held.{Holds, held}
 use Rattle.catalogue_lookup.specs.declared.Column.{Column}
 use Rattle.catalogue_lookup.specs.declared.Named.{Named}

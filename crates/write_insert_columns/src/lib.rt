@@ -1,7 +1,7 @@
 // The target columns of an INSERT, written: a list of references to columns.
 #![tactic(auto)]
 
-ghost use Rattle.bytes_format.specs.Layout.{list_of};
+ghost use Rattle.bytes_format.proofs.Formats.{list_of};
 ghost use Rattle.bytes_bundle.specs.Held.{Holds};
 ghost use Rattle.image_catalogue.specs.Layout.{table};
 ghost use Rattle.image_parts.specs.Layout.{name};

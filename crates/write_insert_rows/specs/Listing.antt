@@ -9,7 +9,7 @@ use Rattle.std.proofs.Math.ListN.{length, drop}
 use Rattle.bytes_wire.specs.Le.{le}
 use Rattle.bytes_wire.specs.Sets.{Wrote}
 use Rattle.bytes_format.specs.Format.{Format}
-use Rattle.bytes_format.specs.Layout.{list_of}
+use Rattle.bytes_format.proofs.Formats.{list_of}
 use Rattle.bytes_bundle.specs.Bundle.{parts_of, Stepped}
 use Rattle.bytes_bundle.specs.Held.{Is, Holds, Along, turn, part_is, is_held, held, held_once, list_count}
 use Rattle.rules.specs.declared.Refusal.{Refusal}

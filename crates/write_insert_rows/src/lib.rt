@@ -4,7 +4,7 @@
 ghost use Rattle.std.specs.Prelude.{◌+◌, ◌≤◌, length};
 ghost use Rattle.bytes_wire.specs.Le.{le};
 ghost use Rattle.bytes_wire.specs.Sets.{Wrote};
-ghost use Rattle.bytes_format.specs.Layout.{list_of};
+ghost use Rattle.bytes_format.proofs.Formats.{list_of};
 ghost use Rattle.image_value.specs.Parts.{value};
 ghost use Rattle.image_expression.specs.Expression.{expression};
 ghost use Rattle.rules.specs.Answers.{each};

@@ -5,7 +5,7 @@ use Rattle.std.proofs.Common.{sym, ap, ◌∙◌, subst, arith}
 use Rattle.std.proofs.Math.Option.{Option, none, some}
 use Rattle.bytes_wire.specs.Le.{Bytes}
 use Rattle.bytes_wire.specs.Sets.{Wrote}
-use Rattle.bytes_format.specs.Layout.{list_of}
+use Rattle.bytes_format.proofs.Formats.{list_of}
 use Rattle.bytes_bundle.specs.Held.{Holds}
 use Rattle.image_bound.specs.Beside.{wrote_long, in_front, wrote_record3_after}
 use Rattle.image_bound.specs.Bundles.{head3, head3_length}

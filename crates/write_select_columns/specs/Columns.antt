@@ -3,7 +3,7 @@
 use Rattle.std.specs.Prelude.{◌≡◌, refl, Bool, true, false, List, [], ◌∷◌, ◌++◌, ℕ, suc, ◌+◌, ◌-◌, ◌≤◌, length, take, drop}
 use Rattle.std.proofs.Common.{sym, ap, ap₂, ◌∙◌, subst, add-one, arith, length-append, drop_of_length-le}
 use Rattle.std.proofs.Math.Option.{some, some-injective, none-ne-some}
-use Rattle.bytes_format.specs.Layout.{list_of}
+use Rattle.bytes_format.proofs.Formats.{list_of}
 use Rattle.bytes_wire.specs.Sets.{Wrote}
 use Rattle.bytes_bundle.specs.Held.{Is, Holds, is_held}
 use Rattle.image_bound.specs.Bundles.{bodies}

@@ -8,7 +8,7 @@ use Rattle.std.proofs.Math.ListN.{length}
 use Rattle.bytes_wire.specs.Le.{le}
 use Rattle.bytes_wire.specs.Sets.{Wrote, then}
 use Rattle.bytes_format.specs.Format.{Format}
-use Rattle.bytes_format.specs.Layout.{list_of}
+use Rattle.bytes_format.proofs.Formats.{list_of}
 use Rattle.image_bound.specs.Beside.{wrote_long, Beside, beside_none, beside_long, beside_first, beside_second, beside_then, beside_joined}
 use Rattle.image_bound.specs.Bundles.{lengths, bodies, list_bytes, list_length, lengths_length}
 use Rattle.image_bound.specs.Written.{spelt}

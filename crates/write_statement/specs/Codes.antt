@@ -3,7 +3,7 @@
 use Rattle.std.specs.Prelude.{◌≡◌, Bool, true, false, List, [], ◌∷◌, ℕ, ◌≤◌, length}
 use Rattle.std.proofs.Common.{sym, ap, ◌∙◌, arith}
 use Rattle.bytes_format.specs.Format.{Format}
-use Rattle.bytes_format.specs.Layout.{mark, both, alone}
+use Rattle.bytes_format.proofs.Formats.{mark, both, alone}
 use Rattle.image_bound.specs.Layout.{bound_statement}
 use Rattle.image_bound.specs.Written.{spelt}
 use Rattle.bytes_bundle.specs.Held.{Holds}

@@ -1,7 +1,7 @@
 -- What the writers of an UPDATE's parts ask for: what they write is bound, and has room.
 -- Assumes nothing: these are definitions.
 use Rattle.std.specs.Prelude.{◌≡◌, List, [], ℕ, ◌+◌, ◌≤◌, length}
-use Rattle.bytes_format.specs.Layout.{list_of}
+use Rattle.bytes_format.proofs.Formats.{list_of}
 use Rattle.bytes_bundle.specs.Held.{Holds}
 use Rattle.image_bound.specs.Layout as layout
 use Rattle.image_bound.specs.Layout.{bound_statement}

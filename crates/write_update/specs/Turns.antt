@@ -4,7 +4,7 @@ use Rattle.std.specs.Prelude.{◌≡◌, List, [], ℕ, ◌+◌, ◌-◌, ◌*�
 use Rattle.std.proofs.Common.{arith}
 use Rattle.bytes_wire.specs.Le.{le}
 use Rattle.bytes_wire.specs.Sets.{Wrote}
-use Rattle.bytes_format.specs.Layout.{list_of}
+use Rattle.bytes_format.proofs.Formats.{list_of}
 use Rattle.bytes_bundle.specs.Bundle.{parts_of, Stepped}
 use Rattle.bytes_bundle.specs.Held.{Holds, list_count, Along, turn}
 use Rattle.image_bound.specs.Beside.{Listed, listed_none, listed_space, listed_more, listed_all, beside_long}

@@ -5,7 +5,7 @@ use Rattle.std.proofs.Common.{sym, ap, ◌∙◌, arith}
 use Rattle.std.proofs.Math.Option.{some}
 use Rattle.bytes_wire.specs.Le.{Bytes}
 use Rattle.bytes_wire.specs.Sets.{Wrote, then}
-use Rattle.bytes_format.specs.Layout.{list_of}
+use Rattle.bytes_format.proofs.Formats.{list_of}
 use Rattle.bytes_bundle.specs.Held.{Is, Holds}
 use Rattle.image_bound.specs.Beside.{wrote_record3_after, wrote_long}
 use Rattle.image_bound.specs.Bundles.{head3, head3_length}

@@ -4,7 +4,7 @@
 
 ghost use Rattle.std.specs.Prelude.{◌≡◌, List, []};
 ghost use Rattle.bytes_wire.specs.Sets.{Wrote};
-ghost use Rattle.bytes_format.specs.Layout.{list_of};
+ghost use Rattle.bytes_format.proofs.Formats.{list_of};
 ghost use Rattle.bytes_bundle.specs.Held.{Is, Holds};
 ghost use Rattle.image_bound.specs.Layout as layout;
 ghost use Rattle.image_bound.specs.Layout.{bound_statement};

@@ -5,7 +5,7 @@ use native.Mathlib.Omega.{arith}
 use Rattle.image_bound.specs.Layout.{bound_statement}
 use Rattle.bytes_bundle.specs.Held.{held, is_held}
 use Rattle.image_catalogue.specs.Values.{catalogue_tables, catalogue_list}
-use Rattle.bytes_format.specs.Layout.{text}
+use Rattle.bytes_format.proofs.Formats.{text}
 use Rattle.bind_table.specs.Short.{create_short}
 use Rattle.bind_table.specs.Steps.{sized_refused, sized_as, sized_is, sized_off}
 use Rattle.image_parts.specs.Layout.{object_name}

@@ -6,7 +6,7 @@ use mathlib.Core.Path.{◌≡◌, ap, ◌∙◌}
 use mathlib.Core.List.{List}
 use lib.ListN.{length, drop, drop_of_length-le}
 use native.Mathlib.Omega.{arith}
-use Rattle.bytes_format.specs.Layout.{list_of}
+use Rattle.bytes_format.proofs.Formats.{list_of}
 use Rattle.bytes_bundle.specs.Held.{Holds, Along, along, along_on, list_bundle, list_count, part_is, turn}
 use Rattle.rules.specs.Statements.{ColumnDefinition}
 use Rattle.image_parts.specs.Layout.{name, column_definition}

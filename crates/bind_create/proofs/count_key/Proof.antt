@@ -3,7 +3,7 @@
 use mathlib.Core.Path.{sym, ◌∙◌, subst}
 use native.Mathlib.Omega.{arith}
 use Rattle.bytes_bundle.specs.Held.{held, list_bundle, is_held}
-use Rattle.bytes_format.specs.Layout.{list_of}
+use Rattle.bytes_format.proofs.Formats.{list_of}
 use Rattle.image_parts.specs.Layout.{constraint}
 use Rattle.bind_create.specs.declared.Key.{Key}
 use Rattle.bind_create.specs.Keys.{NamedAt}

@@ -5,7 +5,7 @@ use Prim.Native.Nat.{◌-◌}
 use mathlib.Core.Path.{sym, ap, ◌∙◌, subst}
 use mathlib.Core.List.{List}
 use native.Mathlib.Omega.{arith}
-use Rattle.bytes_format.specs.Layout.{list_of}
+use Rattle.bytes_format.proofs.Formats.{list_of}
 use Rattle.bytes_bundle.specs.Held.{Holds, Along, along, along_on, list_bundle, list_count, turn}
 use Rattle.bind_repeats.specs.Repeats.{is_at}
 use Rattle.bind_table.specs.declared.Measured.TheVariants as measured

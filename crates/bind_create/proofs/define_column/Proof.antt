@@ -2,7 +2,7 @@
 -- Assumes nothing.
 use mathlib.Core.Path.{sym, ap, ◌∙◌}
 use Rattle.bytes_bundle.specs.Held.{held, is_held}
-use Rattle.bytes_format.specs.Layout.{list_of}
+use Rattle.bytes_format.proofs.Formats.{list_of}
 use Rattle.bind_options.specs.Steps.{step_of}
 use Rattle.image_parts.specs.Layout.{option}
 use Rattle.bind_create.specs.Keys.{has_key, inlined}

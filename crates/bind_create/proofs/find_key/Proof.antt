@@ -2,7 +2,7 @@
 -- Assumes nothing.
 use mathlib.Core.Path.{subst}
 use Rattle.bytes_bundle.specs.Held.{held, is_held}
-use Rattle.bytes_format.specs.Layout.{list_of}
+use Rattle.bytes_format.proofs.Formats.{list_of}
 use Rattle.image_parts.specs.Layout.{column_definition, constraint}
 use Rattle.bind_create.specs.Keys.{ReadsColumns}
 use Rattle.bind_create.proofs.Whole.{read_both, read_columns_off, place_of}

@@ -5,7 +5,7 @@ use mathlib.Core.List.{List}
 use Prim.Native.Nat.{ℕ}
 use borrow.Author.Tests.{not-true, not-false}
 use Rattle.bytes_bundle.specs.Held.{Holds, Shows, held, list_bundle, list_count, is_held}
-use Rattle.bytes_format.specs.Layout.{list_of}
+use Rattle.bytes_format.proofs.Formats.{list_of}
 use Rattle.image_create.specs.Held.{is_key}
 use Rattle.rules.specs.Statements.{Constraint, primary_key}
 use Rattle.image_parts.specs.Layout.{name, constraint}

@@ -5,7 +5,7 @@ use Prim.Native.Nat.{◌-◌}
 use mathlib.Core.List.{List}
 use mathlib.Core.Option.{Option}
 use native.Mathlib.Omega.{arith}
-use Rattle.bytes_format.specs.Layout.{list_of}
+use Rattle.bytes_format.proofs.Formats.{list_of}
 use Rattle.bytes_bundle.specs.Held.{Holds, Along, along, along_on, list_bundle, list_count, part_is, turn}
 use Rattle.rules.specs.Lists.{Text}
 use Rattle.rules.specs.Statements.{ColumnDefinition, Constraint}

@@ -4,7 +4,7 @@ use mathlib.Core.Path.{sym, ap, ◌∙◌}
 use Prim.Native.Nat.{◌<◌}
 use native.Mathlib.Omega.{arith}
 use lib.ListN.{length}
-use Rattle.bytes_format.specs.Layout.{list_of}
+use Rattle.bytes_format.proofs.Formats.{list_of}
 use Rattle.bytes_bundle.specs.Held.{held, list_bundle, list_count}
 use Rattle.image_value.specs.Parts.{value}
 use Rattle.image_parts.specs.Layout.{name}

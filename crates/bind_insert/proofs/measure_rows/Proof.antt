@@ -1,7 +1,7 @@
 -- `bind_insert::measure_rows` meets its contract.
 -- Assumes nothing.
 use mathlib.Core.Path.{sym, ◌∙◌, subst}
-use Rattle.bytes_format.specs.Layout.{list_of}
+use Rattle.bytes_format.proofs.Formats.{list_of}
 use Rattle.image_value.specs.Parts.{value}
 use Rattle.bind_table.specs.Steps.{sized_refused, sized_as}
 use Rattle.bind_insert_columns.specs.Columns.{Targets}

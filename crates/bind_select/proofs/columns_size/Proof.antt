@@ -6,7 +6,7 @@ use Prim.Native.Nat.{◌+◌, ◌-◌, ◌*◌, ◌≤◌, ◌<◌}
 use native.Mathlib.Omega.{arith}
 use lib.ListN.{length, drop, drop_of_length-le}
 use Rattle.bytes_wire.specs.Le.{Bytes}
-use Rattle.bytes_format.specs.Layout.{list_of}
+use Rattle.bytes_format.proofs.Formats.{list_of}
 use Rattle.bytes_bundle.specs.Held.{Holds, held, Along, along, along_on, list_bundle, list_count, part_is, turn}
 use Rattle.image_value.specs.Parts.{column_schema}
 use Rattle.bind_table_ref.specs.Small.{known, parts_short, listed_name_short}

@@ -1,7 +1,7 @@
 -- `bind_select::item_size` meets its contract.
 -- Assumes nothing.
 use mathlib.Core.Path.{sym, ap, ◌∙◌}
-use Rattle.bytes_format.specs.Layout.{list_of}
+use Rattle.bytes_format.proofs.Formats.{list_of}
 use Rattle.bytes_bundle.specs.Held.{is_held, held, held_once}
 use Rattle.bind_where.specs.Short.{at_most_off}
 use Rattle.rules.specs.Analyze as rules

@@ -1,7 +1,7 @@
 -- `bind_select::select_size` meets its contract.
 -- Assumes nothing.
 use native.Mathlib.Omega.{arith}
-use Rattle.bytes_format.specs.Layout.{list_of}
+use Rattle.bytes_format.proofs.Formats.{list_of}
 use Rattle.image_bound.specs.Columns.{bound_column_ref}
 use Rattle.image_bound.specs.Layout.{bound_statement}
 use Rattle.bind_where.specs.Short.{at_most}

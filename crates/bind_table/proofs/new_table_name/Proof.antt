@@ -2,7 +2,7 @@
 -- Assumes nothing.
 use mathlib.Core.Path.{sym, ap, ◌∙◌, subst}
 use lib.ListN.{length}
-use Rattle.bytes_format.specs.Layout.{text}
+use Rattle.bytes_format.proofs.Formats.{text}
 use Rattle.catalogue_lookup.specs.Finds.{FindsTable}
 use Rattle.rules.specs.Names.{canonical}
 use Rattle.bind_table.specs.Steps.{sized_given, sized_refused}

@@ -9,7 +9,7 @@ use Rattle.bytes_bundle.specs.Held.{Holds, is_held, held, list_bundle, list_coun
 use Rattle.image_bound.specs.Layout.{bound_statement}
 use Rattle.image_catalogue.specs.Layout.{catalogue}
 use Rattle.image_catalogue.specs.Values.{catalogue_tables, catalogue_list}
-use Rattle.bytes_format.specs.Layout.{list_of}
+use Rattle.bytes_format.proofs.Formats.{list_of}
 use Rattle.image_parts.specs.Layout.{table_with_joins, condition, assignment, updating}
 use Rattle.bind_where.specs.There.{There, absent, present, there_is, there_reads, there_short}
 use Rattle.bind_table.specs.Short.{update_short, short_table}

@@ -3,7 +3,7 @@
 use Prim.Native.Nat.{◌+◌, ◌*◌, ◌-◌, ◌≤◌}
 use native.Mathlib.Omega.{arith}
 use Rattle.image_bound.specs.Layout as layout
-use Rattle.bytes_format.specs.Layout.{list_of}
+use Rattle.bytes_format.proofs.Formats.{list_of}
 use Rattle.bytes_bundle.specs.Held.{Along, along, along_on, list_bundle}
 use Rattle.image_parts.specs.Layout.{assignment}
 use Rattle.bind_where.specs.Short.{at_most}

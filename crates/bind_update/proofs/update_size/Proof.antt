@@ -4,7 +4,7 @@ use native.Mathlib.Omega.{arith}
 use Rattle.image_bound.specs.Expression.{bound_expression}
 use Rattle.image_bound.specs.Layout as layout
 use Rattle.image_bound.specs.Layout.{bound_statement}
-use Rattle.bytes_format.specs.Layout.{list_of}
+use Rattle.bytes_format.proofs.Formats.{list_of}
 use Rattle.bind_where.specs.Short.{at_most}
 use Rattle.bind_table.specs.Steps.{sized_given, sized_refused, sized_is, sized_off}
 use Rattle.bind_update.specs.Updated.{table_unassigned, table_unfiltered, table_updated, updated_length}

@@ -5,7 +5,7 @@ use Rattle.bytes_bundle.specs.Decides.{Decides, stop, on, last, failed, passed}
 use Rattle.bytes_bundle.specs.Held.{Holds, Is, is_held, held, list_bundle}
 use Rattle.image_catalogue.specs.Layout.{table}
 use Rattle.catalogue_limits.specs.Within.{column_within, count_within, table_within_tests, table_within_decided}
-use Rattle.bytes_format.specs.Layout.{alone, list_of}
+use Rattle.bytes_format.proofs.Formats.{alone, list_of}
 use Rattle.rules.specs.Limits.{at_most, name_within, table_within}
 use Rattle.rules.specs.Lists.{all}
 use Rattle.rules.specs.Tables.{TableSchema}

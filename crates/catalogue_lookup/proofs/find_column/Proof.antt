@@ -6,7 +6,7 @@ use Rattle.catalogue_lookup.specs.Finds.{ColumnStands, Stands, bound_column_lem}
 use Rattle.bytes_bundle.specs.Held.{Holds, Is, is_held, held}
 use Rattle.image_catalogue.specs.Layout.{table}
 use Rattle.image_catalogue.specs.Values.{table_shape, table_held}
-use Rattle.bytes_format.specs.Layout.{list_of}
+use Rattle.bytes_format.proofs.Formats.{list_of}
 use Rattle.text_names.specs.Compared.{named}
 use Rattle.rules.specs.Lists.{Text}
 use Rattle.rules.specs.Lookup.{bound_column, bound_columns, column_by_name}

@@ -3,7 +3,7 @@
 use Prim.Native.Nat.{ℕ, ◌-◌}
 use Rattle.image_catalogue.specs.Entries.{any_hit, any_miss}
 use Rattle.bytes_bundle.specs.Held.{Holds, list_bundle, Along, along, along_on, part_is, Left, left, left_stop, left_on, left_end}
-use Rattle.bytes_format.specs.Layout.{alone}
+use Rattle.bytes_format.proofs.Formats.{alone}
 use Rattle.rules.specs.Lists.{any}
 use Rattle.rules.specs.Tables.{same_id}
 use Rattle.rules.specs.declared.ColumnId.{ColumnId}

@@ -1,7 +1,7 @@
 -- `catalogue_lookup::in_key` meets its contract.
 -- Assumes nothing.
 use Rattle.bytes_bundle.specs.Held.{is_held, held}
-use Rattle.bytes_format.specs.Layout.{alone, list_of}
+use Rattle.bytes_format.proofs.Formats.{alone, list_of}
 use Rattle.rules.specs.Lookup.{in_key}
 use Rattle.image_value.specs.Parts.{column_id}
 use borrow.Author.Rules.{rules}

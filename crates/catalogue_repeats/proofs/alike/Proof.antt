@@ -5,7 +5,7 @@ use Rattle.catalogue_repeats.specs.Repeats.{Told, alike_by}
 use Rattle.catalogue_repeats.specs.declared.By.{By}
 use Rattle.bytes_bundle.specs.Held.{Holds, Is, held}
 use Rattle.image_catalogue.specs.Values.{id_of, id_held}
-use Rattle.bytes_format.specs.Layout.{alone}
+use Rattle.bytes_format.proofs.Formats.{alone}
 use Rattle.rules.specs.Lists.{same}
 use Rattle.rules.specs.Tables.{same_id}
 use Rattle.rules.specs.declared.ColumnId.{ColumnId}

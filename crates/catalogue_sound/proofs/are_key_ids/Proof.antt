@@ -4,7 +4,7 @@ use Prim.Native.Nat.{◌-◌}
 use Rattle.bytes_bundle.specs.Decides.{failed, passed}
 use Rattle.bytes_bundle.specs.Held.{Holds, list_bundle, Along, along, along_on, part_is, Left, left, left_stop, left_on, left_end}
 use Rattle.image_catalogue.specs.Entries.{all_pass, all_stop}
-use Rattle.bytes_format.specs.Layout.{alone, list_of}
+use Rattle.bytes_format.proofs.Formats.{alone, list_of}
 use Rattle.rules.specs.Lists.{all}
 use Rattle.rules.specs.Tables.{ColumnSchema, is_key_column}
 use Rattle.image_value.specs.Parts.{column_id, column_schema}

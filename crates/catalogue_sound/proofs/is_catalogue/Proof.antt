@@ -4,7 +4,7 @@ use Rattle.bytes_bundle.specs.Decides.{failed, passed}
 use Rattle.bytes_bundle.specs.Fields.{checked_not, checked_on}
 use Rattle.bytes_bundle.specs.Held.{Is, held}
 use Rattle.image_catalogue.specs.Layout.{table, catalogue}
-use Rattle.bytes_format.specs.Layout.{list_of}
+use Rattle.bytes_format.proofs.Formats.{list_of}
 use Rattle.rules.specs.Tables.{sound}
 use borrow.Author.Rules.{rules}
 use mathlib.Core.Path.{sym, ◌∙◌}

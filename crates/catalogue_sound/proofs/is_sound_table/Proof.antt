@@ -5,7 +5,7 @@ use Rattle.bytes_bundle.specs.Decides.{Decides, stop, on, last, failed, passed}
 use Rattle.bytes_bundle.specs.Held.{Holds, Is, is_held, held, list_bundle}
 use Rattle.image_catalogue.specs.Layout.{table}
 use Rattle.catalogue_sound.specs.Sound.{has_id, same_column_name, same_column_id, column_names, column_ids_lem, key_ids_lem, key_empty, columns_named, columns_told, ids_told, sound_table_tests, sound_table_decided}
-use Rattle.bytes_format.specs.Layout.{alone, list_of}
+use Rattle.bytes_format.proofs.Formats.{alone, list_of}
 use Rattle.rules.specs.Lists.{is_empty, all, distinct}
 use Rattle.rules.specs.Tables.{TableSchema, same_id, sound_table}
 use Rattle.image_value.specs.Parts.{column_id, column_schema}

@@ -2,7 +2,7 @@
 use borrow.Author.Rules.{rules}
 use borrow.Author.Tests.{ne_eqb, eq-eqb}
 use mathlib.Core.Path.{sym, ◌∙◌}
-use Rattle.bytes_format.specs.Layout.{alone}
+use Rattle.bytes_format.proofs.Formats.{alone}
 use Rattle.bytes_bundle.specs.Decides.{failed, passed}
 use Rattle.bytes_bundle.specs.Laws.{list_not, walk, walk_stop, walk_on, walk_end, step_size}
 use Rattle.image_value.specs.Parts.{column_id}

@@ -1,6 +1,6 @@
 -- `image_catalogue::are_ids` meets its contract. The invariant is the walk over the parts (bundle, `Walk`).
 use Prim.Native.Nat.{◌-◌}
-use Rattle.bytes_format.specs.Layout.{alone, list_of}
+use Rattle.bytes_format.proofs.Formats.{alone, list_of}
 use Rattle.bytes_bundle.specs.Bundle.{is_there}
 use Rattle.bytes_bundle.specs.Laws.{Walk}
 use Rattle.image_value.specs.Parts.{column_id}

@@ -5,7 +5,7 @@ use mathlib.Core.Bool.{Bool}
 use mathlib.Core.List.{List}
 use Prim.Native.Nat.{ℕ, ◌-◌}
 use native.Mathlib.Omega.{arith}
-use Rattle.bytes_format.specs.Layout.{list_of}
+use Rattle.bytes_format.proofs.Formats.{list_of}
 use Rattle.bytes_bundle.specs.Bundle.{is_there}
 use Rattle.bytes_bundle.specs.Decides.{failed, passed}
 use Rattle.bytes_bundle.specs.Laws.{list_not, Walk, walk, walk_stop, walk_on, walk_end}

@@ -1,7 +1,7 @@
 -- `image_catalogue::columns` meets its contract.
 use borrow.Author.Rules.{rules}
 use mathlib.Core.Path.{ap, ◌∙◌}
-use Rattle.bytes_format.specs.Layout.{list_of}
+use Rattle.bytes_format.proofs.Formats.{list_of}
 use Rattle.image_value.specs.Parts.{column_schema}
 use Rattle.image_catalogue.specs.Values.{table_shape, table_held}
 use Rattle.image_catalogue.proofs.columns.Goals as goal

@@ -4,7 +4,7 @@ use mathlib.Core.Path.{ap, ◌∙◌}
 use mathlib.Core.Bool.{Bool}
 use mathlib.Core.List.{List}
 use Prim.Native.Nat.{ℕ}
-use Rattle.bytes_format.specs.Layout.{alone}
+use Rattle.bytes_format.proofs.Formats.{alone}
 use Rattle.bytes_utf8.specs.Decide.{is_utf8}
 use Rattle.bytes_bundle.specs.Bundle.{is_there, IsRecord}
 use Rattle.bytes_bundle.specs.Decides.{stop, on, last, failed, passed}

@@ -1,7 +1,7 @@
 -- `image_catalogue::key` meets its contract.
 use borrow.Author.Rules.{rules}
 use mathlib.Core.Path.{ap, ◌∙◌}
-use Rattle.bytes_format.specs.Layout.{alone, list_of}
+use Rattle.bytes_format.proofs.Formats.{alone, list_of}
 use Rattle.image_value.specs.Parts.{column_id}
 use Rattle.image_catalogue.specs.Values.{table_shape, table_held}
 use Rattle.image_catalogue.proofs.key.Goals as goal

@@ -4,7 +4,7 @@ use borrow.Author.Rules.{rules}
 use native.Mathlib.Omega.{arith}
 use mathlib.Core.Path.{refl, sym}
 use Prim.Native.Nat.{◌-◌}
-use Rattle.bytes_format.specs.Layout.{list_of}
+use Rattle.bytes_format.proofs.Formats.{list_of}
 use Rattle.bytes_bundle.specs.Decides.{failed, passed}
 use Rattle.bytes_bundle.specs.Laws.{list_not, Walk, walk, walk_stop, walk_on, walk_end}
 use Rattle.bytes_bundle.specs.Heads.{is_a}

@@ -4,7 +4,7 @@ use borrow.Author.Rules.{rules}
 use mathlib.Core.Path.{ap, ◌∙◌}
 use mathlib.Core.List.{List}
 use Prim.Native.Nat.{ℕ}
-use Rattle.bytes_format.specs.Layout.{list_of}
+use Rattle.bytes_format.proofs.Formats.{list_of}
 use Rattle.image_parts.specs.Layout.{constraint}
 use Rattle.image_create.specs.Held.{create_shape, create_has}
 use Rattle.image_create.proofs.constraints.Statement.{statement}

@@ -6,7 +6,7 @@ use mathlib.Core.Bool.{Bool}
 use mathlib.Core.List.{List}
 use Prim.Native.Nat.{ℕ}
 use lib.ListN.{drop}
-use Rattle.bytes_format.specs.Layout.{alone, list_of}
+use Rattle.bytes_format.proofs.Formats.{alone, list_of}
 use Rattle.bytes_bundle.specs.Bundle.{is_there, IsRecord}
 use Rattle.bytes_bundle.specs.Decides.{Decides, stop, on, last, failed, passed}
 use Rattle.bytes_bundle.specs.Laws.{is_record_lem, record_tests}

@@ -6,7 +6,7 @@ use mathlib.Core.Path.{refl, ap, ◌∙◌}
 use mathlib.Core.Bool.{Bool}
 use mathlib.Core.List.{List}
 use Prim.Native.Nat.{ℕ}
-use Rattle.bytes_format.specs.Layout.{mark, headed, list_of}
+use Rattle.bytes_format.proofs.Formats.{mark, headed, list_of}
 use Rattle.bytes_bundle.specs.Bundle.{is_there}
 use Rattle.bytes_bundle.specs.Heads.{no_code, at_code, bare_code, bad_code}
 use Rattle.image_parts.specs.Layout.{name}

@@ -7,7 +7,7 @@ use mathlib.Core.List.{List}
 use Prim.Native.Nat.{ℕ, ◌-◌}
 use lib.ListN.{length, drop, length-drop}
 use lib.Seq.{take_all}
-use Rattle.bytes_format.specs.Layout.{list_of}
+use Rattle.bytes_format.proofs.Formats.{list_of}
 use Rattle.rules.specs.Statements.{primary_key}
 use Rattle.image_parts.specs.Layout.{name}
 use Rattle.image_create.specs.Held.{key_wide, constraint_has}

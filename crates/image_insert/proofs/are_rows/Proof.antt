@@ -7,7 +7,7 @@ use Prim.Native.Nat.{◌-◌}
 use Rattle.bytes_bundle.specs.Decides.{failed, passed}
 use Rattle.bytes_bundle.specs.Laws.{list_not, Walk, walk, walk_stop, walk_on, walk_end}
 use Rattle.bytes_bundle.specs.Heads.{is_a}
-use Rattle.bytes_format.specs.Layout.{list_of}
+use Rattle.bytes_format.proofs.Formats.{list_of}
 use Rattle.image_expression.specs.Expression.{expression}
 use Rattle.image_insert.proofs.are_rows.Statement.{statement}
 use Rattle.image_insert.proofs.are_rows.Tie as tie

@@ -7,7 +7,7 @@ use mathlib.Core.List.{List}
 use Prim.Native.Nat.{ℕ}
 use lib.ListN.{drop}
 use Rattle.bytes_format.specs.Ways.{optional_read}
-use Rattle.bytes_format.specs.Layout.{list_of}
+use Rattle.bytes_format.proofs.Formats.{list_of}
 use Rattle.bytes_bundle.specs.Bundle.{is_there, IsRecord}
 use Rattle.bytes_bundle.specs.Decides.{Decides, stop, on, last, failed, passed}
 use Rattle.bytes_bundle.specs.Laws.{is_record_lem, record_tests}

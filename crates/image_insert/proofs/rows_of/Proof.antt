@@ -7,7 +7,7 @@ use mathlib.Core.List.{List}
 use Prim.Native.Nat.{ℕ, ◌-◌}
 use lib.ListN.{length, drop, length-drop}
 use lib.Seq.{take_all}
-use Rattle.bytes_format.specs.Layout.{list_of}
+use Rattle.bytes_format.proofs.Formats.{list_of}
 use Rattle.rules.specs.Statements.{values}
 use Rattle.image_expression.specs.Expression.{expression}
 use Rattle.image_insert.specs.Held.{values_wide, body_has}

@@ -3,7 +3,7 @@
 use borrow.Author.Rules.{rules}
 use Rattle.bytes_bundle.specs.Held.{same}
 use Rattle.image_select.specs.Held.{select_has, select_whole}
-use Rattle.bytes_format.specs.Layout.{list_of}
+use Rattle.bytes_format.proofs.Formats.{list_of}
 use Rattle.image_parts.specs.Layout.{item}
 use Rattle.image_select.proofs.items_of.Statement.{statement}
 use Rattle.image_select.proofs.items_of.Tie as tie

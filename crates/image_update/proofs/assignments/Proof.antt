@@ -3,7 +3,7 @@
 use borrow.Author.Rules.{rules}
 use Rattle.bytes_bundle.specs.Held.{same}
 use Rattle.image_update.specs.Held.{update_has, update_whole}
-use Rattle.bytes_format.specs.Layout.{list_of}
+use Rattle.bytes_format.proofs.Formats.{list_of}
 use Rattle.image_parts.specs.Layout.{assignment}
 use Rattle.image_update.proofs.assignments.Statement.{statement}
 use Rattle.image_update.proofs.assignments.Tie as tie

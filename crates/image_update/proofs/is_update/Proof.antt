@@ -5,7 +5,7 @@ use Rattle.bytes_bundle.specs.Decides.{on, last, failed, passed}
 use Rattle.bytes_bundle.specs.Laws.{is_record_lem}
 use Rattle.bytes_bundle.specs.Heads.{fails, is_a, told, are_marks}
 use Rattle.image_update.specs.Shapes.{update_decided}
-use Rattle.bytes_format.specs.Layout.{list_of}
+use Rattle.bytes_format.proofs.Formats.{list_of}
 use Rattle.image_parts.specs.Layout.{table_with_joins, condition, assignment}
 use borrow.Author.Rules.{rules}
 use Rattle.image_update.proofs.is_update.Statement.{statement}

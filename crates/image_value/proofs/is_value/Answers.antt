@@ -2,7 +2,7 @@
 use mathlib.Core.Path.{refl, sym, ap, ◌∙◌}
 use native.Mathlib.Omega.{arith}
 use Rattle.bytes_utf8.specs.Decide.{is_utf8}
-use Rattle.bytes_format.specs.Layout.{alone, mark}
+use Rattle.bytes_format.proofs.Formats.{alone, mark}
 use Rattle.bytes_bundle.specs.Fields.{text_is}
 use lib.ListN.{drop}
 use Rattle.bytes_bundle.specs.Heads.{no_code, at_code, bare_code, bad_code, is_a}

@@ -2,7 +2,7 @@
 -- Assumes nothing.
 use mathlib.Core.Path.{subst}
 use native.Mathlib.Omega.{arith}
-use Rattle.bytes_format.specs.Layout.{list_of}
+use Rattle.bytes_format.proofs.Formats.{list_of}
 use Rattle.bytes_bundle.specs.Held.{held, list_bundle, is_held}
 use Rattle.image_parts.specs.Layout.{column_definition, constraint}
 use Rattle.bind_create.specs.declared.Key.{Key}

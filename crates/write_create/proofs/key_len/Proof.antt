@@ -3,7 +3,7 @@
 use mathlib.Core.Path.{sym, ◌∙◌, subst}
 use native.Mathlib.Omega.{arith}
 use lib.ListN.{length-map}
-use Rattle.bytes_format.specs.Layout.{list_of}
+use Rattle.bytes_format.proofs.Formats.{list_of}
 use Rattle.bytes_bundle.specs.Held.{held, list_bundle, list_count, is_held}
 use Rattle.image_parts.specs.Layout.{name, constraint}
 use Rattle.rules.specs.Names.{canonical}

@@ -2,7 +2,7 @@
 -- Assumes nothing.
 use mathlib.Core.Path.{sym, ap, ◌∙◌}
 use Rattle.bytes_bundle.specs.Held.{held, is_held}
-use Rattle.bytes_format.specs.Layout.{list_of}
+use Rattle.bytes_format.proofs.Formats.{list_of}
 use Rattle.bind_options.specs.Steps.{step_of}
 use Rattle.rules.specs.Answers.{Answer}
 use Rattle.rules.specs.Analyze.{OptionState}

@@ -6,7 +6,7 @@ use mathlib.Core.Path.{◌≡◌, ◌∙◌}
 use mathlib.Core.List.{List, [], map}
 use native.Mathlib.Omega.{arith}
 use lib.ListN.{length, take, drop, length-set}
-use Rattle.bytes_format.specs.Layout.{list_of}
+use Rattle.bytes_format.proofs.Formats.{list_of}
 use Rattle.bytes_bundle.specs.Held.{Holds, Along, along, along_on, list_bundle, list_count, turn}
 use Rattle.bind_repeats.specs.Short.{short_part}
 use Rattle.rules.specs.declared.ColumnId.{ColumnId}

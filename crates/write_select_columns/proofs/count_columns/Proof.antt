@@ -2,7 +2,7 @@
 -- Assumes nothing.
 use Prim.Native.Nat.{◌-◌}
 use native.Mathlib.Omega.{arith}
-use Rattle.bytes_format.specs.Layout.{list_of}
+use Rattle.bytes_format.proofs.Formats.{list_of}
 use Rattle.bytes_bundle.specs.Held.{Along, along, along_on, is_held, list_bundle, list_count, turn}
 use Rattle.image_parts.specs.Layout.{item}
 use Rattle.write_select_columns.specs.Items.{ItemsGive, Counted, counted_none, counted_turn, counted_fits, counted_more, counted_all}

@@ -4,7 +4,7 @@ use mathlib.Core.Path.{sym, ◌∙◌}
 use Prim.Native.Nat.{◌-◌, ◌≤◌}
 use native.Mathlib.Omega.{arith}
 use lib.ListN.{length}
-use Rattle.bytes_format.specs.Layout.{list_of}
+use Rattle.bytes_format.proofs.Formats.{list_of}
 use Rattle.bytes_bundle.specs.Held.{Along, along, along_on, is_held, held_once, list_bundle, list_count, turn}
 use Rattle.image_bound.specs.Beside.{wrote_long}
 use Rattle.image_value.specs.Parts.{column_schema}

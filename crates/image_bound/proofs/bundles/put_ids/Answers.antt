@@ -4,7 +4,7 @@ use mathlib.Core.Path.{◌≡◌, sym, ap, ◌∙◌}
 use Prim.Native.Nat.{◌≤◌}
 use lib.ListN.{length, take}
 use lib.Seq.{length-take-le}
-use Rattle.bytes_format.specs.Layout.{alone}
+use Rattle.bytes_format.proofs.Formats.{alone}
 use Rattle.image_value.specs.Parts.{column_id}
 use Rattle.image_bound.specs.Written.{wrote_list, ended, spelt}
 use Rattle.image_bound.specs.Spelt.{id_lengths, id_lengths_length, ids_lengths}

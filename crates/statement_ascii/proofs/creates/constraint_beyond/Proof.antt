@@ -3,7 +3,7 @@
 use Rattle.statement_ascii.specs.Beyond.{Beyond}
 use Rattle.bytes_bundle.specs.Decides.{failed, passed}
 use Rattle.bytes_bundle.specs.Looks.{Inside, inside_is, inside_says}
-use Rattle.bytes_format.specs.Layout.{list_of}
+use Rattle.bytes_format.proofs.Formats.{list_of}
 use Rattle.statement_limits.specs.Cases.{no_key, key_inside}
 use Rattle.rules.specs.Limits.{constraint_names}
 use Rattle.rules.specs.Statements.{Constraint}

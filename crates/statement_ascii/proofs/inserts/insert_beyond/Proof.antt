@@ -2,7 +2,7 @@
 -- Assumes nothing.
 use Rattle.statement_ascii.specs.Beyond.{Beyond, beyond_stop, beyond_on}
 use Rattle.bytes_bundle.specs.Held.{Holds, is_held, held}
-use Rattle.bytes_format.specs.Layout.{list_of}
+use Rattle.bytes_format.proofs.Formats.{list_of}
 use Rattle.rules.specs.Limits.{gather, expression_names, object_names, source_rows, held_by_insert}
 use Rattle.rules.specs.Statements.{Insert}
 use Rattle.image_parts.specs.Layout.{name, object_name, insertion}

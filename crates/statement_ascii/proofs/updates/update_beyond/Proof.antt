@@ -2,7 +2,7 @@
 -- Assumes nothing.
 use Rattle.statement_ascii.specs.Beyond.{Beyond, beyond_stop, beyond_on}
 use Rattle.bytes_bundle.specs.Held.{Holds, is_held, held}
-use Rattle.bytes_format.specs.Layout.{list_of}
+use Rattle.bytes_format.proofs.Formats.{list_of}
 use Rattle.rules.specs.Limits.{gather, if_there, expression_names, table_names, assignment_names, held_by_update}
 use Rattle.rules.specs.Statements.{Update}
 use Rattle.image_parts.specs.Layout.{table_with_joins, condition, assignment, updating}

@@ -2,7 +2,7 @@
 -- Assumes nothing.
 use Rattle.bytes_bundle.specs.Decides.{stop, on, last, failed, passed}
 use Rattle.bytes_bundle.specs.Held.{Is, is_held, held, list_bundle, list_count}
-use Rattle.bytes_format.specs.Layout.{list_of}
+use Rattle.bytes_format.proofs.Formats.{list_of}
 use Rattle.statement_limits.specs.Within.{column_within_lem}
 use Rattle.rules.specs.Limits.{at_most}
 use Rattle.image_parts.specs.Layout.{name, option}

@@ -2,7 +2,7 @@
 -- Assumes nothing.
 use Rattle.bytes_bundle.specs.Decides.{failed, passed}
 use Rattle.bytes_bundle.specs.Looks.{Inside, inside_is, inside_says}
-use Rattle.bytes_format.specs.Layout.{list_of}
+use Rattle.bytes_format.proofs.Formats.{list_of}
 use Rattle.image_expression.specs.Expression.{expression}
 use Rattle.statement_limits.specs.Cases.{no_values, rows_inside}
 use Rattle.statement_limits.specs.Within.{list_within, row_within}

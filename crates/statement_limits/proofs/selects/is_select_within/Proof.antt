@@ -3,7 +3,7 @@
 use Prim.Native.Nat.{ℕ}
 use Rattle.bytes_bundle.specs.Decides.{Decides, stop, on, last, failed, passed}
 use Rattle.bytes_bundle.specs.Held.{Holds, is_held, held}
-use Rattle.bytes_format.specs.Layout.{list_of}
+use Rattle.bytes_format.proofs.Formats.{list_of}
 use Rattle.image_expression.specs.Names.{Within}
 use Rattle.statement_limits.specs.Within.{list_within, item_within, condition_within, select_tests, select_within}
 use Rattle.rules.specs.Limits.{from_names, held_by_select, held_within}

@@ -3,7 +3,7 @@
 use Prim.Native.Nat.{ℕ}
 use Rattle.bytes_bundle.specs.Decides.{Decides, stop, on, last, failed, passed}
 use Rattle.bytes_bundle.specs.Held.{Holds, is_held, held}
-use Rattle.bytes_format.specs.Layout.{list_of}
+use Rattle.bytes_format.proofs.Formats.{list_of}
 use Rattle.image_expression.specs.Names.{Within}
 use Rattle.statement_limits.specs.Within.{list_within, assignment_within, condition_within, update_tests, update_within}
 use Rattle.rules.specs.Limits.{table_names, held_by_update, held_within}

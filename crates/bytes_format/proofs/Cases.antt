@@ -6,9 +6,9 @@ use Rattle.bytes_utf8.specs.Decide.{is_utf8}
 use Rattle.std.proofs.Math.ListN.{get_elem?}
 use Rattle.tree.specs.Tree.{Tree, Tree.leaf, Tree.un, Tree.bin, size}
 use Rattle.bytes_format.specs.Format.{Format, Enum, Coded}
-use Rattle.bytes_format.specs.Layout.{text, nothing, number, mark, alone, int64, optional, end, ◌and◌, list_of, record_of, via}
-use Rattle.bytes_format.specs.Sums.{Case, case, Some, nth, made, sum, choice, kinds}
-use Rattle.bytes_format.specs.Run.{run, labels, labels_with}
+use Rattle.bytes_format.proofs.Formats.{text, nothing, number, mark, alone, int64, optional, end, ◌and◌, list_of, record_of, via}
+use Rattle.bytes_format.proofs.Sums.{Case, case, Some, nth, made, sum, choice, kinds}
+use Rattle.bytes_format.proofs.Run.{run, labels, labels_with}
 
 -- ---- lists and records
 

@@ -11,12 +11,12 @@ use Rattle.bytes_wire.specs.Le.{Bytes}
 use Rattle.tree.specs.Tree.{Tree}
 use Rattle.bytes_format.specs.Format.{Format, Fixed, Coded, Every}
 use Rattle.bytes_format.specs.Ways as W
-use Rattle.bytes_format.specs.Laws as L
-use Rattle.bytes_format.specs.Layout.{raw, number, both, row, headed, refine}
-use Rattle.bytes_format.specs.Sums.{choice, beside, recode, either}
+use Rattle.bytes_format.proofs.Laws as L
+use Rattle.bytes_format.proofs.Formats.{raw, number, both, row, headed, refine}
+use Rattle.bytes_format.proofs.Sums.{choice, beside, recode, either}
 use Rattle.bytes_format.specs.Nodes as N
 use Rattle.bytes_format.specs.Nodes.{Label, Label.leaf_label, Label.un_label, Label.bin_label, Labels}
-use Rattle.bytes_format.specs.NodeLaws as K
+use Rattle.bytes_format.proofs.NodeLaws as K
 
 -- ---- nodes
 

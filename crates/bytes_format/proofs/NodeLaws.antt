@@ -10,7 +10,7 @@ use Rattle.bytes_wire.specs.Le.{Bytes, drop_bytes, take_bytes}
 use Rattle.tree.specs.Tree.{Tree, Tree.leaf, Tree.un, Tree.bin, size}
 use Rattle.bytes_format.specs.Format.{Format, Every}
 use Rattle.bytes_format.specs.Ways.{next, joined, cut_read}
-use Rattle.bytes_format.specs.Laws.{cond_some, next_some, cut_there, cut_back_lem, append_bytes}
+use Rattle.bytes_format.proofs.Laws.{cond_some, next_some, cut_there, cut_back_lem, append_bytes}
 use Rattle.bytes_format.specs.Nodes.{Labels, Label, Label.leaf_label, Label.un_label, Label.bin_label, nodes_of, spanned, push, grow, only, tree_of, Holds, total, sums, steps, content_length, rows_of, contents_of, content_total, mend, NodeOk, images_of, labels_of, cut_at_read, RunOk, run_read, run_write}
 
 -- ---- trees and their nodes

@@ -11,7 +11,7 @@ use Rattle.bytes_wire.specs.Le.{Bytes, le, length_le, cons_bytes}
 use Rattle.bytes_utf8.specs.Decide.{is_utf8}
 use Rattle.bytes_format.specs.Format.{Format, Fixed, Parts, Every, Enum}
 use Rattle.bytes_format.specs.Ways as W
-use Rattle.bytes_format.specs.Laws as L
+use Rattle.bytes_format.proofs.Laws as L
 
 -- ---- fields
 

@@ -8,7 +8,7 @@ use Rattle.std.specs.Prelude.{◌≡◌, true, ◌⊎◌, List, [], ◌∷◌, �
 use Rattle.std.proofs.Math.Option.{some}
 use Rattle.bytes_format.specs.Format.{Format, Fixed, Coded, Enum}
 use Rattle.bytes_format.specs.Ways as W
-use Rattle.bytes_format.specs.Laws as L
+use Rattle.bytes_format.proofs.Laws as L
 pub use Rattle.bytes_format.specs.Ways.{Case, Some, nth, made, spread}
 
 -- one byte, the code, and what follows it
