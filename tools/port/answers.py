@@ -29,7 +29,7 @@ def bare_goal(name):
 class Function:
     def __init__(self, crate, path, told):
         self.crate, self.path, self.told = crate, path, told
-        self.left, self.negated = [], False
+        self.left, self.negated, self.in_cycle = [], False, False
         self.places = told["places"]
         self.by_old = {norm(p[0]): k for k, p in enumerate(self.places)}
         self.names = told["places_by_name"]
@@ -94,8 +94,9 @@ class Function:
 
         def whole(at):
             if goal is None:
-                far = list(self.line(place)).index(at)
-                return var + ".before" * far
+                if at != place:
+                    self.left.append(f"a lemma over {self.names[place]} hands on {self.names[at]}")
+                return var
             return f"(goal.at.{goal} {var}).{self.names[at]}"
 
         out, at_text = [], 0
@@ -124,7 +125,13 @@ class Function:
             at, fields = walk(head, fields)
             if not fields:
                 return whole(at)
-            return ".".join([var] + self.step(place, at, fields))
+            new = self.step(place, at, fields)
+            # a member of a cycle was given its measure beside what it requires
+            if self.in_cycle and new[:2] == ["requires", "1"]:
+                new = new[:1] + new[2:]
+            elif self.in_cycle and new[:1] == ["requires"]:
+                self.left.append(f"the measure is cited: {head}{m[2]}")
+            return ".".join([var] + new)
 
         # what is known of `!x` speaks of x itself now: a lemma that turned it goes, and what took it as it was takes it turned
         text = PATH.sub(one, text)
@@ -278,6 +285,69 @@ def convert(crate, folder, path, told):
         print(f"left: {crate} {path}: {it}")
 
 
+def convert_cycle(crate, folder, cycle, told):
+    """A cycle of calls: the goals of all its members stand in one file, over the measure t."""
+    with open(os.path.join(folder, "Proof.antt"), encoding="utf-8") as it:
+        text = it.read()
+    members = {alias: m for m, alias in re.findall(r"(?m)^use \S+\.Lts-(\S+) as (\S+)$", text)}
+    functions = {alias: Function(crate, m, told[f"Rattle-{crate}-proofs.{cycle}.Lts-{m}"]) for alias, m in members.items()}
+    many = len(members) > 1
+    for f in functions.values():
+        f.in_cycle = True
+    module = f"Rattle.{crate}.proofs.{cycle}"
+    comment, uses, invariants, answers, left = [], [], [], [], []
+    for part in blocks(text):
+        lines = [line[2:] if line.startswith("  ") else line for line in part.split("\n") if not line.startswith("module _ ")]
+        notes = []
+        if "\nuse " in part or part.startswith("use "):
+            comment += [line for line in lines if line.startswith("--")]
+            uses += [line for line in lines if line.startswith("use ")]
+            continue
+        while lines and lines[0].startswith("--"):
+            notes.append(lines.pop(0))
+        body = "\n".join(lines)
+        m = re.match(r"(?:abbrev )?(" + NAME + r") : (" + NAME + r")\.(Need-|invariant-loop|decreases-loop)(\S*)", body)
+        if not m or m[2] not in members:
+            if "abbrev" not in body and "close" not in body:
+                left.append("not turned: " + body.split("\n")[0])
+            continue
+        f = functions[m[2]]
+        eq = re.search(r"(?m)^" + re.escape(m[1]) + r" (.*?)\s*=(?=\s)", body)
+        own = f"{f.path}-" if many else ""
+        if m[3] != "Need-":
+            kind, loop = (m[3] + m[4]).split("-", 1)
+            new, vars_, changed = f.loops[norm(loop)]
+            params = eq[1].split()
+            targets = [f"l.initial.{v}" if c else f"l.{v}" for v, c in zip(vars_, changed)] + [f"l.{v}" for v, c in zip(vars_, changed) if c]
+            invariants.append("\n".join(notes + [f"abbrev pub {own}{kind}-{new} : goal.{own}{kind}-{new}", f"{own}{kind}-{new} l =" + substitute(body[eq.end() :], dict(zip(params, targets)))]))
+            continue
+        name = bare_goal(m[4])
+        if name not in f.goals:
+            left.append(f"no goal {m[4]} of {f.path}; known: {sorted(f.goals)}")
+            continue
+        new, place = f.goals[name]
+        text_ = body[eq.end() :]
+        if re.fullmatch(r"\s*search rules\s*", text_):
+            continue
+        params = [it for it in eq[1].split() if not it.startswith("κ")]
+        between = body[body.index("\n") + 1 : eq.start()]
+        answers.append("\n".join(notes + [f"pub {own}{new} : goal.{own}{new}"]) + "\n" + between + f"{own}{new} t {' '.join(params)} =" + f.turn(text_, place, f"{own}{new}", params[0]))
+    uses = [u for u in uses if not re.search(r"\.(Reads|Kinds|Lts-\S+) as |\.Tie\.|\{statement\}|borrow\.Fn\.", u)]
+    says = [c for c in comment if not re.match(r"-- Assumes nothing", c)]
+    if any(f.negated for f in functions.values()):
+        known = set(re.findall(NAME, " ".join(re.findall(r"\{([^}]*)\}", "\n".join(uses)))))
+        uses += [f"use Rattle.std.proofs.Common.{{{name}}}" for name in ("ap", "not") if name not in known]
+    with open(os.path.join(folder, "Invariants.antt"), "w", encoding="utf-8") as it:
+        it.write("\n".join(says + uses + [f"use {module}.Given as goal"]) + "\n\n" + "\n\n".join(invariants) + "\n")
+    with open(os.path.join(folder, "Answers.antt"), "w", encoding="utf-8") as it:
+        it.write("\n".join(says + uses + [f"use {module}.Goals as goal"]) + "\n\n" + "\n\n".join(answers) + "\n")
+    os.remove(os.path.join(folder, "Proof.antt"))
+    for f in functions.values():
+        left += f.left
+    for it in left:
+        print(f"left: {crate} {cycle}: {it}")
+
+
 def turn(crate):
     with tempfile.TemporaryDirectory() as room:
         said = subprocess.run(
@@ -293,7 +363,10 @@ def turn(crate):
         json.dump(told, open(f"/tmp/names-{crate}.json", "w"))
     done = 0
     for folder, _, found in sorted(os.walk(f"crates/{crate}/proofs")):
-        if "Proof.antt" not in found or "/+" in folder:
+        if "Proof.antt" not in found:
+            continue
+        if "/+" in folder:
+            convert_cycle(crate, folder, os.path.basename(folder), told)
             continue
         path = os.path.relpath(folder, f"crates/{crate}/proofs").replace("/", ".")
         key = f"Rattle-{crate}-proofs.{path}.Lts"

@@ -1,14 +1,9 @@
 -- `image_catalogue::are_tables` meets its contract. The invariant is the walk over the parts (bundle, `Walk`).
 use borrow.Author.Rules.{rules}
 use mathlib.Core.Path.{refl, sym}
-use mathlib.Core.Bool.{Bool}
-use mathlib.Core.List.{List}
-use Prim.Native.Nat.{ℕ, ◌-◌}
 use native.Mathlib.Omega.{arith}
-use Rattle.bytes_format.proofs.Formats.{list_of}
-use Rattle.bytes_bundle.specs.Bundle.{is_there}
 use Rattle.bytes_bundle.specs.Decides.{failed, passed}
-use Rattle.bytes_bundle.specs.Laws.{list_not, Walk, walk, walk_stop, walk_on, walk_end}
+use Rattle.bytes_bundle.specs.Laws.{list_not, walk, walk_stop, walk_on, walk_end}
 use Rattle.image_catalogue.specs.Layout.{table}
 use Rattle.image_catalogue.proofs.are_tables.Invariants.{isTable}
 use Rattle.std.proofs.Common.{ap}

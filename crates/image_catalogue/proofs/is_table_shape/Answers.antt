@@ -29,13 +29,13 @@ left-1 : (c : Else-not-is_record) → Left 1 c.args.s.now
 left-1 c = on (table_decided c.args.s.now) (passed c.is_record.ensures (ap not c.if-not-is_record.false))
 
 left-2 : (c : Else-numbers-ne20) → Left 2 c.args.s.now
-left-2 c = on (left-1 c) (eq-eqb _ _ (sym (ap length c.part-numbers.ensures) ∙ c.if-numbers-ne20.false))
+left-2 c = on (on (table_decided c.args.s.now) (passed c.is_record.ensures (ap not c.if-not-is_record.false))) (eq-eqb _ _ (sym (ap length c.part-numbers.ensures) ∙ c.if-numbers-ne20.false))
 
 left-3 : (c : Else-not-is_utf8) → Left 3 c.args.s.now
-left-3 c = on (left-2 c) (passed (c.is_utf8.ensures ∙ ap is_utf8 c.part.ensures) (ap not c.if-not-is_utf8.false))
+left-3 c = on (on (on (table_decided c.args.s.now) (passed c.is_record.ensures (ap not c.if-not-is_record.false))) (eq-eqb _ _ (sym (ap length c.part-numbers.ensures) ∙ c.if-numbers-ne20.false))) (passed (c.is_utf8.ensures ∙ ap is_utf8 c.part.ensures) (ap not c.if-not-is_utf8.false))
 
 left-4 : (c : Else-not-are_columns) → Left 4 c.args.s.now
-left-4 c = on (left-3 c) (passed (c.are_columns.ensures ∙ ap are_columns c.part-2.ensures) (ap not c.if-not-are_columns.false))
+left-4 c = on (on (on (on (table_decided c.args.s.now) (passed c.is_record.ensures (ap not c.if-not-is_record.false))) (eq-eqb _ _ (sym (ap length c.part-numbers.ensures) ∙ c.if-numbers-ne20.false))) (passed (c.is_utf8.ensures ∙ ap is_utf8 c.part.ensures) (ap not c.if-not-is_utf8.false))) (passed (c.are_columns.ensures ∙ ap are_columns c.part-2.ensures) (ap not c.if-not-are_columns.false))
 
 pub returns-then-not-is_record : goal.returns-then-not-is_record
 returns-then-not-is_record c = stop (table_decided c.args.s.now) (failed c.is_record.ensures (ap not c.if-not-is_record.true))

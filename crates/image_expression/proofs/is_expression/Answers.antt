@@ -1,26 +1,23 @@
 -- `is_expression` meets its contract. The invariant: the nodes passed are good (`Passed`). Each answer is one of the laws of `Reader.antt`.
 use mathlib.Core.Path.{sym, ◌∙◌}
-use Prim.Native.Nat.{◌-◌}
 use native.Mathlib.Omega.{arith}
-use borrow.Author.Rules.{rules}
-use borrow.Author.Tests.{not-true}
-use Rattle.image_expression.specs.Reader.{Passed, passed_room, none_read, not_there, not_one_lem, begun_room, begun, stopped_content, stopped_shape, passes, stopped_end, last_decides}
+use Rattle.image_expression.specs.Reader.{passed_room, none_read, not_there, not_one_lem, begun_room, begun, stopped_content, stopped_shape, passes, stopped_end, last_decides}
 use Rattle.image_expression.proofs.Known.{known}
 use Rattle.std.proofs.Common.{ap}
 use Rattle.std.proofs.Common.{not}
 use Rattle.image_expression.proofs.is_expression.Goals as goal
 
 pub returns-then-not-all_there : goal.returns-then-not-all_there
-returns-then-not-all_there c = none_read (known c.type_inv.s) (λ e m. not_there e m (sym c.All-there.ensures ∙ c.if-not-all_there.true))
+returns-then-not-all_there c = none_read (known c.type_inv.s) (λ e m. not_there e m (sym c.all_there.ensures ∙ c.if-not-all_there.true))
 
 pub count-n-requires : goal.count-n-requires
-count-n-requires c = omega (arith, begun_room c.args.s.now _ c.All-there.ensures (ap not c.if-not-all_there.false))
+count-n-requires c = omega (arith, begun_room c.args.s.now _ c.all_there.ensures (ap not c.if-not-all_there.false))
 
 pub returns-then-n-eq0 : goal.returns-then-n-eq0
 returns-then-n-eq0 c = none_read (known c.type_inv.s) (λ e m. not_one_lem e m (sym c.count-n.ensures.0 ∙ c.if-n-eq0.true))
 
 pub loop-i-init : goal.loop-i-init
-loop-i-init c = begun _ _ (known c.type_inv.s) c.All-there.ensures (ap not c.if-not-all_there.false) c.count-n.ensures.0 c.if-n-eq0.false
+loop-i-init c = begun _ _ (known c.type_inv.s) c.all_there.ensures (ap not c.if-not-all_there.false) c.count-n.ensures.0 c.if-n-eq0.false
 
 pub content_ok-requires : goal.content_ok-requires
 content_ok-requires c = passed_room c.loop-i.invariant _ (omega arith)

@@ -1,16 +1,12 @@
 -- `image_bound::bundles::put_id_bodies` meets its contract. The invariant: what is left of the bodies, written, gives all of them.
-use borrow.Author.Rules.{rules}
-use native.Mathlib.Omega.{arith}
 use mathlib.Core.List.{List}
 use Prim.Native.Nat.{ℕ, ◌-◌, ◌≤◌}
-use lib.ListN.{length, take, drop, length-drop, drop_of_length-le}
-use lib.Seq.{length-take-le}
+use lib.ListN.{take, drop}
 use Rattle.bytes_format.proofs.Formats.{alone}
 use Rattle.image_value.specs.Parts.{column_id}
 use Rattle.rules.specs.declared.ColumnId.{ColumnId}
 use Rattle.image_bound.specs.Bundles.{bodies}
-use Rattle.image_bound.specs.Spelt.{ids_bodies, ids_bodies_next}
-use Rattle.image_bound.specs.Written.{Rest, rest_all, rest_less, rest_none}
+use Rattle.image_bound.specs.Written.{Rest}
 use Rattle.image_bound.proofs.bundles.put_id_bodies.Given as goal
 
 abbrev pub left : List ColumnId → ℕ → ℕ → List ℕ
