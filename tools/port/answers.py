@@ -94,9 +94,7 @@ class Function:
 
         def whole(at):
             if goal is None:
-                if at != place:
-                    self.left.append(f"a lemma over {self.names[place]} hands on {self.names[at]}")
-                return var
+                return var if at == place else f"(goal.at.{self.names[place]} {var}).{self.names[at]}"
             return f"(goal.at.{goal} {var}).{self.names[at]}"
 
         out, at_text = [], 0
@@ -176,7 +174,7 @@ def convert(crate, folder, path, told):
         if "tie.close" in body:
             continue
         m = re.match(r"(?:abbrev )?(?:pub )?(" + NAME + r") : tie\.(\S+)", body)
-        if m and m[2].startswith(("invariant-loop", "decreases-loop")):
+        if m and m[2].startswith(("invariant-", "decreases-")):
             kind, loop = m[2].split("-", 1)
             new, vars_, changed = f.loops[norm(loop)]
             eq = re.search(r"(?m)^" + re.escape(m[1]) + r" (.*?)\s*=(?=\s)", body)
@@ -219,7 +217,7 @@ def convert(crate, folder, path, told):
             places.append(k)
             return f.names[k]
 
-        body2 = re.sub(r"tie\.((?:After|Then|Else|In|At|Start)\S*?)(?: (?:invariant|decreases)-loop[\w-]*)*(?=[\s)])", place_of, body)
+        body2 = re.sub(r"tie\.((?:After|Then|Else|In|At|Start)\S*?)(?: (?:invariant|decreases)-[\w-]*)*(?=[\s)])", place_of, body)
         if "tie." in body2:
             f.left.append("a lemma cites tie: " + body2.split("\n")[0])
         if places:
@@ -235,6 +233,12 @@ def convert(crate, folder, path, told):
                 k = places[0]
                 signature = f.turn(body2[: eq.start()], k, None, sig[1])
                 body2 = signature + body2[eq.start() : eq.end()] + f.turn(body2[eq.end() :], k, None, var)
+            elif eq and re.search(r": " + re.escape(f.names[places[0]]) + r" →", body2[: eq.start()]):
+                k, var = places[0], eq[1].split()[0]
+                body2 = body2[: eq.end()] + f.turn(body2[eq.end() :], k, None, var)
+            elif sig and re.match(r"(?:pub )?record ", body2):
+                end = body2.index("\n")
+                body2 = body2[:end] + f.turn(body2[end:], places[0], None, sig[1])
             else:
                 f.left.append("a lemma over a place: " + body2.split("\n")[0])
             over.append(f"use Rattle.{crate}.proofs.{path}.Goals.{{{f.names[places[0]]}}}")

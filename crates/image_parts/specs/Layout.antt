@@ -1,7 +1,7 @@
 -- The statement's image, as docs/IMAGES.md lays it out ("The statement"). Counts have 2 bytes.
 -- Each `..Cases` is the list of a code's cases in the order of the codes; `which..` says which case a value is.
 -- Assumes nothing.
-use Rattle.std.specs.Prelude.{◌≡◌, refl, Bool, List, [], ◌∷◌, ℕ}
+use Rattle.std.specs.Prelude.{◌≡◌, refl, List, [], ◌∷◌, ℕ}
 use Rattle.std.proofs.Math.Option.{Option, some}
 use Rattle.std.proofs.Math.ListN.{get_elem?}
 use Rattle.bytes_wire.specs.Le.{Bytes}

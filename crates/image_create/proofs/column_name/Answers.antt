@@ -1,0 +1,14 @@
+-- `image_create::column_name` meets its contract.
+use borrow.Author.Rules.{rules}
+use mathlib.Core.Path.{ap, ◌∙◌}
+use mathlib.Core.List.{List}
+use Prim.Native.Nat.{ℕ}
+use Rattle.image_parts.specs.Layout.{name}
+use Rattle.image_create.specs.Held.{column_shape, column_has}
+use Rattle.image_create.proofs.column_name.Goals as goal
+
+pub part-requires : goal.part-requires
+part-requires c = let r = (column_shape c.requires).whole in search rules
+
+pub returns : goal.returns
+returns c = λ v h. ap (λ (p : List ℕ). name.read p) c.part.ensures ∙ (column_has c.args.d.now v h).name

@@ -1,0 +1,14 @@
+-- `image_create::table_name` meets its contract.
+use borrow.Author.Rules.{rules}
+use mathlib.Core.Path.{ap, ◌∙◌}
+use mathlib.Core.List.{List}
+use Prim.Native.Nat.{ℕ}
+use Rattle.image_parts.specs.Layout.{object_name}
+use Rattle.image_create.specs.Held.{create_shape, create_has}
+use Rattle.image_create.proofs.table_name.Goals as goal
+
+pub part-requires : goal.part-requires
+part-requires c = let r = (create_shape c.requires).whole in search rules
+
+pub returns : goal.returns
+returns c = λ v h. ap (λ (p : List ℕ). object_name.read p) c.part.ensures ∙ (create_has c.args.c.now v h).name

@@ -1,0 +1,14 @@
+-- `image_insert::source_of` meets its contract.
+use borrow.Author.Rules.{rules}
+use mathlib.Core.Path.{ap, ◌∙◌}
+use mathlib.Core.List.{List}
+use Prim.Native.Nat.{ℕ}
+use Rattle.image_parts.specs.Layout.{source}
+use Rattle.image_insert.specs.Held.{insert_shape, insert_has}
+use Rattle.image_insert.proofs.source_of.Goals as goal
+
+pub part-requires : goal.part-requires
+part-requires c = let r = (insert_shape c.requires).whole in search rules
+
+pub returns : goal.returns
+returns c = λ v q h e. ap (λ (p : List ℕ). source.read p) c.part.ensures ∙ (insert_has c.args.i.now v h).source q e

@@ -1,0 +1,19 @@
+-- `image_select::is_query_body` meets its contract.
+use mathlib.Core.Path.{refl}
+use native.Mathlib.Omega.{arith}
+use Rattle.bytes_bundle.specs.Heads.{no_code, at_code, bare_code, bad_code}
+use Rattle.image_select.specs.Shapes.{query_body_chosen}
+use borrow.Author.Rules.{rules}
+use Rattle.image_select.proofs.is_query_body.Goals as goal
+
+pub returns-then-s-eq0 : goal.returns-then-s-eq0
+returns-then-s-eq0 c = no_code (query_body_chosen _) c.if-s-eq0.true
+
+pub returns-in-0 : goal.returns-in-0
+returns-in-0 c = bare_code (query_body_chosen _) 0 (search rules) (search rules) refl
+
+pub returns-in-1 : goal.returns-in-1
+returns-in-1 c = at_code (query_body_chosen _) 1 (search rules) (search rules) (cc)
+
+pub returns-in_default : goal.returns-in_default
+returns-in_default c = bad_code (query_body_chosen _) (omega arith)
