@@ -43,6 +43,16 @@ class Function:
         old = self.places[k][1]
         return None if old is None else self.by_old[norm(old)]
 
+    def grown(self, k):
+        """The last place of an arm, where all its names are known."""
+        arms = self.told["arms"]
+        while arms[k]:
+            more = [j for j in range(len(self.places)) if self.parent(j) == k and arms[j] and arms[j][0] == arms[k][0]]
+            if not more:
+                break
+            k = more[0]
+        return k
+
     def line(self, k):
         """The place and those before it."""
         while k is not None:
@@ -93,6 +103,7 @@ class Function:
             return at, fields
 
         def whole(at):
+            at = self.grown(at)
             if goal is None:
                 return var if at == place else f"(goal.at.{self.names[place]} {var}).{self.names[at]}"
             return f"(goal.at.{goal} {var}).{self.names[at]}"
@@ -214,6 +225,7 @@ def convert(crate, folder, path, told):
             if k is None:
                 f.left.append(f"no place {m[1]}")
                 return m[0]
+            k = f.grown(k)
             places.append(k)
             return f.names[k]
 

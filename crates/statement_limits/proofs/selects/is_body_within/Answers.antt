@@ -1,0 +1,22 @@
+-- `statement_limits::selects::is_body_within` meets its contract.
+use Rattle.statement_limits.specs.Within.{nothing_within}
+use Rattle.bytes_bundle.specs.Looks.{Inside, inside_is, inside_says}
+use Rattle.statement_limits.specs.Cases.{no_select, select_inside}
+use Rattle.rules.specs.Limits.{held_by_select, held_by_body, held_within}
+use Rattle.image_parts.specs.Layout.{select, query_body}
+use borrow.Author.Rules.{rules}
+use mathlib.Core.Path.{sym, ap, ◌∙◌}
+use Rattle.statement_limits.proofs.selects.is_body_within.Goals.{After-select_of}
+use Rattle.statement_limits.proofs.selects.is_body_within.Goals as goal
+
+inner : (c : After-select_of) → Inside query_body select held_by_body held_by_select c.args.b.now c.select_of.result.now
+inner c = select_inside (λ v h. sym (c.body_code.ensures v h) ∙ c.if-body_code-ne1.false) c.select_of.ensures
+
+pub returns-then-body_code-ne1 : goal.returns-then-body_code-ne1
+returns-then-body_code-ne1 c = λ v h. sym (ap held_within (no_select v (λ e. c.if-body_code-ne1.true (c.body_code.ensures v h ∙ e))) ∙ nothing_within)
+
+pub is_select_within-requires : goal.is_select_within-requires
+is_select_within-requires c = inside_is (inner (goal.at.is_select_within-requires c).After-select_of) c.requires
+
+pub returns : goal.returns
+returns c = inside_says (inner (goal.at.returns c).After-select_of) held_within c.is_select_within.ensures
