@@ -19,7 +19,8 @@ PATH = re.compile(r"(?<![^\s(){};,@⟨⟩])(" + NAME + r")((?:\.(?:" + NAME + r"
 
 
 def norm(name):
-    return name.strip("«»").replace("_", "-").replace("All-there", "all-there")
+    # port.py took some steps of the prover for names of a library
+    return re.sub(r"-lem(?=\d*$)", "", name.strip("«»").replace("_", "-").replace("All-there", "all-there"))
 
 
 def bare_goal(name):

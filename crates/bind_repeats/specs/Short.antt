@@ -27,7 +27,7 @@ module _ {o : Of} {s : List ℕ} where
   short_part {i} {at} {e} a d = record {
     is = part_is d a.is;
     short = λ v h. held a.is (λ vs k.
-        let t = turn d k in
+        let t = turn {f = form o} d k in
         all_turn (λ w. short_name (name_in o w)) i vs v (drop (i + 1) vs) (a.short vs k) (t.rest ∙ ap (λ (w : Entry o). w ∷ drop (i + 1) vs) (held_once (form o) t.holds h)));
   }
 

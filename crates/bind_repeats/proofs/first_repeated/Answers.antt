@@ -1,15 +1,12 @@
 -- `bind_repeats::first_repeated` meets its contract. The invariants: no entry before the one at hand repeats an earlier one; no entry passed by the inner loop is like the one at hand.
-use Prim.Native.Nat.{◌-◌, ◌≤◌}
 use borrow.Author.Rules.{rules}
-use lib.ListN.{take, drop}
-use mathlib.Core.Path.{◌≡◌, refl, ◌∙◌}
+use mathlib.Core.Path.{refl, ◌∙◌}
 use native.Mathlib.Omega.{arith}
-use Rattle.bytes_bundle.specs.Held.{Along, along, along_on, list_bundle, part_is}
-use Rattle.bind_repeats.specs.declared.Repeat.TheVariants.{Nowhere}
+use Rattle.bytes_bundle.specs.Held.{along, along_on, list_bundle, part_is}
 use Rattle.bind_repeats.specs.Entries.{form}
 use Rattle.bind_repeats.specs.Short.{short_part, short_inside}
 use Rattle.bind_repeats.proofs.Same.{in_named, names_compared}
-use Rattle.bind_repeats.proofs.Search.{Searching, searching, LikeNone, like_none, like_none_on, repeat_found, searching_on, no_repeat}
+use Rattle.bind_repeats.proofs.Search.{searching, like_none, like_none_on, repeat_found, searching_on, no_repeat}
 use Rattle.bind_repeats.proofs.first_repeated.Goals as goal
 
 pub parts-n-requires : goal.parts-n-requires

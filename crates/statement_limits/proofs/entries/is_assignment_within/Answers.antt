@@ -30,7 +30,7 @@ left-1 : (c : Else-not-is_target_within) (v : Assignment) → Holds assignment c
 left-1 c v h = on (assignment_within_lem v) (passed (told-1 (goal.at.Else-not-is_target_within c).After-is_target_within v h) (ap not c.if-not-is_target_within.false))
 
 told-2 : (c : After-is_expression_within) (v : Assignment) → Holds assignment c.args.a.now v → c.is_expression_within.result ≡ expression_within v.value
-told-2 c v h = c.is_expression_within.ensures v.value (c.value_of_lem.ensures v h)
+told-2 c v h = c.is_expression_within.ensures v.value (c.value_of.ensures v h)
 
 pub is_target_within-requires : goal.is_target_within-requires
 is_target_within-requires c = held c.requires (λ v h. is_held {f = assignment_target} (c.target_of.ensures v h))
@@ -39,7 +39,7 @@ pub returns-then-not-is_target_within : goal.returns-then-not-is_target_within
 returns-then-not-is_target_within c = λ v h. stop (assignment_within_lem v) (failed (told-1 (goal.at.returns-then-not-is_target_within c).After-is_target_within v h) (ap not c.if-not-is_target_within.true))
 
 pub is_expression_within-requires : goal.is_expression_within-requires
-is_expression_within-requires c = held c.requires (λ v h. is_held {f = expression} (c.value_of_lem.ensures v h))
+is_expression_within-requires c = held c.requires (λ v h. is_held {f = expression} (c.value_of.ensures v h))
 
 pub returns : goal.returns
 returns c = λ v h. last (left-1 (goal.at.returns c).Else-not-is_target_within v h) (told-2 (goal.at.returns c).After-is_expression_within v h)

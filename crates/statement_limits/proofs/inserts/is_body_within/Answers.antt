@@ -13,8 +13,8 @@ use Rattle.statement_limits.proofs.inserts.is_body_within.Goals.{After-rows_of}
 use Rattle.std.proofs.Common.{not}
 use Rattle.statement_limits.proofs.inserts.is_body_within.Goals as goal
 
-inner : (c : After-rows_of) → Inside source_body (list_of 2 (list_of 2 expression)) body_rows (λ rows. rows) c.args.b.now c.rows_of_lem.result.now
-inner c = rows_inside (λ v h. passed (c.is_values.ensures v h) (ap not c.if-not-is_values.false)) c.rows_of_lem.ensures
+inner : (c : After-rows_of) → Inside source_body (list_of 2 (list_of 2 expression)) body_rows (λ rows. rows) c.args.b.now c.rows_of.result.now
+inner c = rows_inside (λ v h. passed (c.is_values.ensures v h) (ap not c.if-not-is_values.false)) c.rows_of.ensures
 
 pub returns-then-not-is_values : goal.returns-then-not-is_values
 unfolding list_within
