@@ -27,10 +27,86 @@ def bare_goal(name):
     return re.sub(r"^(overflow|nonzero|slice-bounds|part|bounds|index)-", "", norm(name))
 
 
+def requires_names(crate, path):
+    """The names of a function's requires clauses, where it has several."""
+    parts = path.split(".")
+    for root in ("lib.rt", "main.rt", parts[0] + ".rt"):
+        file = f"crates/{crate}/src/{root}"
+        if not os.path.exists(file) or (root == parts[0] + ".rt") != (len(parts) > 1):
+            continue
+        with open(file, encoding="utf-8") as f:
+            text = f.read()
+        m = re.search(r"\bfn " + parts[-1] + r"\b(?:(?!\n\{).)*", text, re.S)
+        names = re.findall(r"\brequires (\w+) \{", m[0]) if m else []
+        if len(names) > 1:
+            return names
+    return []
+
+
+def named(text, names):
+    """Paths into the pair of requires clauses, by the clauses' names."""
+    heads = ["c.requires"] + [m for m in re.findall(r"let (" + NAME + r") = c\.requires in", text)]
+    for head in heads:
+        for k, name in enumerate(names):
+            last = k == len(names) - 1
+            old = ".1" * k + ("" if last else ".0")
+            text = re.sub(r"(?<![^\s(){};,])" + re.escape(head + old) + r"(?![\w])", f"{head}.{name}", text)
+    return text
+
+
+def parts_of(tuple_):
+    """The parts of a tuple's text, or None."""
+    tuple_ = tuple_.strip()
+    if not (tuple_.startswith("(") and tuple_.endswith(")")):
+        return None
+    parts, depth, now = [], 0, ""
+    for ch in tuple_[1:-1]:
+        depth += ch in "([{"
+        depth -= ch in ")]}"
+        if depth < 0:
+            return None
+        if ch == "," and depth == 0:
+            parts.append(now.strip())
+            now = ""
+        else:
+            now += ch
+    if now.strip():
+        parts.append(now.strip())
+    return parts if len(parts) > 1 else None
+
+
+def as_record(text, names, measured):
+    """What a call of a function with several requires clauses is given: a record, and no tuple."""
+    at = 0
+    for m in re.finditer(r"\bin\s+(?=\()", text):
+        if parts_of(text[m.end() :]):
+            at = m.end()
+            break
+    tail = text[at:]
+    parts = parts_of(tail)
+    if not parts:
+        return None
+    lead = tail[: len(tail) - len(tail.lstrip())]
+    if measured:
+        rest = parts[1] if len(parts) == 2 else "(" + ", ".join(parts[1:]) + ")"
+        made = as_record(rest, names, False)
+        return made and text[:at] + lead + f"({parts[0]}, {made.strip()})"
+    fields = []
+    for k in range(len(names) - 1):
+        fields.append(parts[0])
+        if len(parts) == 2:
+            parts = parts_of(parts[1]) or [parts[1]] if k < len(names) - 2 else [parts[1]]
+        else:
+            parts = parts[1:]
+    fields.append(parts[0] if len(parts) == 1 else "(" + ", ".join(parts) + ")")
+    return text[:at] + lead + "record { " + "; ".join(f"{n} = {v}" for n, v in zip(names, fields)) + " }"
+
+
 class Function:
     def __init__(self, crate, path, told):
         self.crate, self.path, self.told = crate, path, told
-        self.left, self.negated, self.in_cycle = [], False, False
+        self.requires = requires_names(crate, path)
+        self.left, self.negated, self.in_cycle, self.cycle = [], False, False, set()
         self.places = told["places"]
         self.by_old = {norm(p[0]): k for k, p in enumerate(self.places)}
         self.names = told["places_by_name"]
@@ -88,9 +164,22 @@ class Function:
     def inside(self, at, rest):
         return [r.strip("«»") if r not in ("«of»", "«as»", "«in»") else r for r in rest]
 
+    def callee(self, goal):
+        """The names of the requires clauses of the function that a goal's call calls, and whether it is of the same cycle."""
+        m = re.fullmatch(r"(?:" + re.escape(self.path) + r"-)?(.*?)-requires(-.*)?", goal or "")
+        if not m:
+            return None
+        label = m[1] + (m[2] or "")
+        for place in self.places:
+            if place[3] and place[2][1] in (label, m[1]):
+                crate, _, path = place[3].partition("::")
+                return requires_names(crate, path.replace("::", ".")), self.in_cycle and path in self.cycle
+        return None
+
     def turn(self, text, place, goal, var="c"):
         """A proof's text at a place, with its paths anew. goal is None in a lemma over a place."""
         aliases = {var: place}
+        call = self.callee(goal)
 
         def walk(head, fields):
             at = aliases[head]
@@ -148,7 +237,14 @@ class Function:
         text = re.sub(r"\bnot-(?:true|false) (?:_|c\.[^\s()]+) (c\.[^\s()]*)", r"\1⟪direct⟫", text)
         turned = re.sub(r"(?<![^\s(){};,])(c\.(?:if|loop)-not-[^\s(){};,.]*\.(?:true|false))(?!⟪|[^\s(){};,])", r"(ap not \1)", text)
         self.negated = self.negated or turned != text
-        return turned.replace("⟪direct⟫", "")
+        turned = named(turned.replace("⟪direct⟫", ""), self.requires)
+        # within a cycle they stay a pair
+        if call and len(call[0]) > 1 and not call[1]:
+            made = as_record(turned, *call)
+            if made is None:
+                self.left.append(f"{goal} is answered by no tuple")
+            return made or turned
+        return turned
 
 
 def blocks(text):
@@ -310,7 +406,7 @@ def convert_cycle(crate, folder, cycle, told):
     functions = {alias: Function(crate, m, told[f"Rattle-{crate}-proofs.{cycle}.Lts-{m}"]) for alias, m in members.items()}
     many = len(members) > 1
     for f in functions.values():
-        f.in_cycle = True
+        f.in_cycle, f.cycle = True, set(members.values())
     module = f"Rattle.{crate}.proofs.{cycle}"
     comment, uses, invariants, answers, left = [], [], [], [], []
     for part in blocks(text):

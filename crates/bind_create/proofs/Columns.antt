@@ -83,7 +83,7 @@ module _ {s : List ℕ} {t : OptionState} {i at e : ℕ} (l : OptionsLeft s t i)
   one_left : {a : Answer OptionState} → ((v : ColumnOption) → Holds option (take (e - at) (drop at s)) v → a ≡ one_option t v)
       → (os : List ColumnOption) → Holds (list_of 2 option) s os → options no_options os ≡ (a >>= (λ u. options u (drop (i + 1) os)))
   one_left g os h =
-      let u = turn d h in
+      let u = turn {f = option} d h in
       l.is os h ∙ ap (options t) u.rest ∙ options_next t u.value (drop (i + 1) os)
       ∙ ap (λ (a : Answer OptionState). a >>= (λ u. options u (drop (i + 1) os))) (sym (g u.value u.holds))
 

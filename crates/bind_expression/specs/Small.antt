@@ -35,7 +35,6 @@ use Rattle.rules.specs.Marking.{
 use Rattle.rules.specs.Statements.{Name, Leaf, Unary, parentheses, null_test, unary, other_unary, Binary, binary, other_binary, Expr}
 use Rattle.rules.specs.Tables.{TableSchema}
 use Rattle.rules.proofs.Theorems.Answered.{bind_given, never_fine, never_given}
-use Rattle.image_catalogue.specs.Layout.{table}
 use Rattle.image_expression.specs.Expression.{expression}
 use Rattle.image_expression.specs.Place.{Node, node_count, end_at, node_at, name_kind, leaf_kind, leaf_text, top, Root, HasNode}
 use Rattle.image_expression.specs.Trees.{root_size}

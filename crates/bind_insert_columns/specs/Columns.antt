@@ -97,7 +97,7 @@ name_part {s} {i} a d = (
   part_is {f = name} d a.is,
   record {
     short = λ w h. held a.is (λ ns k.
-        let t = turn d k in
+        let t = turn {f = name} d k in
         leb-true (length w.text) 128 (all_turn (λ (n : Name). short_name (some n)) i ns (a.short ns k) (t.rest ∙ ap (λ (n : Name). n ∷ drop (i + 1) ns) (held_once name t.holds h))));
   },
 )
@@ -220,7 +220,7 @@ module _ {t s codes : List ℕ} {i total at e : ℕ} (w : Binding t s codes i to
     p = w.at v ns ht hs
 
     abbrev n : Name
-    n = (turn d hs).value
+    n = (turn {f = name} d hs).value
 
     rest : texts (drop i ns) ≡ canonical n ∷ texts (drop (i + 1) ns)
     rest = ap texts (turn d hs).rest

@@ -6,7 +6,6 @@ use Rattle.statement_limits.specs.Cases.{Coded, create_inside, insert_inside, qu
 use Rattle.statement_limits.specs.Within.{nothing_within, statement_within_lem}
 use Rattle.rules.specs.Limits.{held_by, held_within, statement_within}
 use Rattle.rules.specs.Statements.{Statement}
-use borrow.Author.Rules.{rules}
 use borrow.Author.Tests.{le-leb, lt-leb}
 use lib.ListN.{length}
 use mathlib.Core.List.{[], ◌∷◌}

@@ -9,7 +9,6 @@ use Rattle.rules.specs.Limits.{object_names, held_by_create_table, held_within}
 use Rattle.rules.specs.Lists.{all}
 use Rattle.rules.specs.Statements.{CreateTable}
 use Rattle.image_parts.specs.Layout.{object_name, column_definition, constraint, create}
-use borrow.Author.Rules.{rules}
 use lib.ListN.{drop}
 use mathlib.Core.Path.{◌≡◌}
 use Rattle.statement_limits.proofs.creates.is_create_within.Goals.{After-is_object_name_within}

@@ -1,12 +1,9 @@
 -- `statement_limits::entries::are_entries_within` meets its contract. The invariant: the entries passed are within, and what is left decides.
-use Prim.Native.Nat.{◌-◌}
 use Rattle.bytes_bundle.specs.Held.{list_bundle, part_is}
-use Rattle.bytes_bundle.specs.Looks.{Looking, looking, looks_on}
+use Rattle.bytes_bundle.specs.Looks.{looking, looks_on}
 use Rattle.statement_limits.specs.Kinds.{entry_form, entry_within}
 use Rattle.statement_limits.specs.Lists.{all_looks, too_many, entry_stops, entries_end}
-use Rattle.rules.specs.Lists.{all}
 use borrow.Author.Rules.{rules}
-use borrow.Author.Tests.{not-true, not-false}
 use Rattle.statement_limits.proofs.entries.are_entries_within.Goals as goal
 
 pub parts-n-requires : goal.parts-n-requires

@@ -9,7 +9,6 @@ use Rattle.rules.specs.Limits.{target_names}
 use Rattle.rules.specs.Lists.{all}
 use Rattle.rules.specs.Statements.{Assignment}
 use Rattle.image_parts.specs.Layout.{assignment_target, assignment}
-use borrow.Author.Rules.{rules}
 use lib.ListN.{drop}
 use mathlib.Core.Path.{◌≡◌}
 use Rattle.statement_limits.proofs.entries.is_assignment_within.Goals.{After-is_target_within}

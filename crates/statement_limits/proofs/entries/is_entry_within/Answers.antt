@@ -4,7 +4,6 @@ use Rattle.bytes_bundle.specs.Held.{Is, Holds}
 use Rattle.statement_limits.specs.Kinds.{Entry, entry_form, entry_within}
 use Rattle.statement_limits.specs.Within.{row_within}
 use Rattle.statement_limits.specs.declared.entries.Lists.{Lists}
-use borrow.Author.Rules.{rules}
 use mathlib.Core.Bool.{Bool}
 use mathlib.Core.List.{List}
 use mathlib.Core.Path.{◌≡◌, sym, subst}

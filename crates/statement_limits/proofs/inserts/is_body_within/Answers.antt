@@ -7,7 +7,6 @@ use Rattle.statement_limits.specs.Cases.{no_values, rows_inside}
 use Rattle.statement_limits.specs.Within.{list_within, row_within}
 use Rattle.rules.specs.Limits.{body_rows}
 use Rattle.image_parts.specs.Layout.{source_body}
-use borrow.Author.Rules.{rules}
 use mathlib.Core.Path.{sym, ap}
 use Rattle.statement_limits.proofs.inserts.is_body_within.Goals.{After-rows_of}
 use Rattle.std.proofs.Common.{not}

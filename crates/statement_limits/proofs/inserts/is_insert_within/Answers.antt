@@ -9,7 +9,6 @@ use Rattle.rules.specs.Limits.{object_names, held_by_insert, held_within}
 use Rattle.rules.specs.Lists.{all}
 use Rattle.rules.specs.Statements.{Insert}
 use Rattle.image_parts.specs.Layout.{name, object_name, insertion}
-use borrow.Author.Rules.{rules}
 use lib.ListN.{drop}
 use mathlib.Core.Path.{◌≡◌}
 use Rattle.statement_limits.proofs.inserts.is_insert_within.Goals.{After-is_object_name_within}

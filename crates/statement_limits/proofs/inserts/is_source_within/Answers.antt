@@ -7,7 +7,6 @@ use Rattle.statement_limits.specs.Within.{list_within, row_within, source_within
 use Rattle.rules.specs.Limits.{body_rows, source_rows}
 use Rattle.rules.specs.Statements.{Source, Insert}
 use Rattle.image_parts.specs.Layout.{source_body, source, insertion}
-use borrow.Author.Rules.{rules}
 use mathlib.Core.Path.{sym, ap}
 use Rattle.statement_limits.proofs.inserts.is_source_within.Goals.{After-source_of}
 use Rattle.std.proofs.Common.{not}

@@ -4,7 +4,6 @@ use Rattle.bytes_bundle.specs.Looks.{Inside, inside_is, inside_says}
 use Rattle.statement_limits.specs.Cases.{no_select, select_inside}
 use Rattle.rules.specs.Limits.{held_by_select, held_by_body, held_within}
 use Rattle.image_parts.specs.Layout.{select, query_body}
-use borrow.Author.Rules.{rules}
 use mathlib.Core.Path.{sym, ap, ◌∙◌}
 use Rattle.statement_limits.proofs.selects.is_body_within.Goals.{After-select_of}
 use Rattle.statement_limits.proofs.selects.is_body_within.Goals as goal

@@ -1,7 +1,6 @@
 -- `statement_limits::selects::is_query_within` meets its contract.
 use Rattle.bytes_bundle.specs.Held.{is_held, held}
 use Rattle.image_parts.specs.Layout.{query_body}
-use borrow.Author.Rules.{rules}
 use Rattle.statement_limits.proofs.selects.is_query_within.Goals as goal
 
 pub is_body_within-requires : goal.is_body_within-requires

@@ -9,7 +9,6 @@ use Rattle.rules.specs.Limits.{from_names, held_by_select, held_within}
 use Rattle.rules.specs.Lists.{all}
 use Rattle.rules.specs.Statements.{Select}
 use Rattle.image_parts.specs.Layout.{item, select_from, condition, select}
-use borrow.Author.Rules.{rules}
 use lib.ListN.{drop}
 use mathlib.Core.Path.{◌≡◌}
 use Rattle.statement_limits.proofs.selects.is_select_within.Goals.{After-is_from_within}

@@ -9,7 +9,6 @@ use Rattle.rules.specs.Limits.{table_names, held_by_update, held_within}
 use Rattle.rules.specs.Lists.{all}
 use Rattle.rules.specs.Statements.{Update}
 use Rattle.image_parts.specs.Layout.{table_with_joins, condition, assignment, updating}
-use borrow.Author.Rules.{rules}
 use lib.ListN.{drop}
 use mathlib.Core.Path.{◌≡◌}
 use Rattle.statement_limits.proofs.updates.is_update_within.Goals.{After-is_table_within}

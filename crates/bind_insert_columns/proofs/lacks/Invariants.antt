@@ -1,0 +1,14 @@
+-- `bind_insert_columns::lacks` meets its contract. The invariant: what the columns that are left decide.
+use Prim.Native.Nat.{◌-◌}
+use mathlib.Core.Path.{sym}
+use Rattle.bytes_bundle.specs.Held.{list_bundle, Along, along, along_on, part_is}
+use Rattle.image_value.specs.Parts.{column_schema}
+use Rattle.bind_insert_columns.specs.Columns.{listed, Lacking, lacking_none, lacking_on, lacking_hit, lacking_end}
+use borrow.Author.Rules.{rules}
+use Rattle.bind_insert_columns.proofs.lacks.Given as goal
+
+abbrev pub invariant-loop-i : goal.invariant-loop-i
+invariant-loop-i l = Along l.list l.n l.i l.at × Lacking l.t l.names l.list l.need l.i
+
+abbrev pub decreases-loop-i : goal.decreases-loop-i
+decreases-loop-i l = l.n - l.i
