@@ -27,8 +27,8 @@ def bare_goal(name):
     return re.sub(r"^(overflow|nonzero|slice-bounds|part|bounds|index)-", "", norm(name))
 
 
-def requires_names(crate, path):
-    """The names of a function's requires clauses, where it has several."""
+def requires_names(crate, path, kind="requires"):
+    """The names of a function's requires clauses, or its ensures, where it has several."""
     parts = path.split(".")
     for root in ("lib.rt", "main.rt", parts[0] + ".rt"):
         file = f"crates/{crate}/src/{root}"
@@ -37,7 +37,7 @@ def requires_names(crate, path):
         with open(file, encoding="utf-8") as f:
             text = f.read()
         m = re.search(r"\bfn " + parts[-1] + r"\b(?:(?!\n\{).)*", text, re.S)
-        names = re.findall(r"\brequires (\w+) \{", m[0]) if m else []
+        names = re.findall(r"\b" + kind + r" (\w+) \{", m[0]) if m else []
         if len(names) > 1:
             return names
     return []
@@ -158,10 +158,23 @@ class Function:
         found += [k for k in self.line(goal_place) if self.parent(k) is None and label in ("args", "requires", "ranges")]
         if found and found[0] != at:
             return self.step(goal_place, found[0], fields)
+        bare = re.sub(r"\d+$", "", label)
+        found = [k for k in self.line(goal_place) if re.sub(r"\d+$", "", norm(self.places[k][2][0])) == bare]
+        if bare != label and len(found) == 1:
+            return [self.places[found[0]][2][1]] + self.inside(found[0], rest)
         self.left.append(f"no step {fields[0]} at {self.names[at]} ({'.'.join(fields)})")
         return fields
 
     def inside(self, at, rest):
+        called = self.places[at][3]
+        if called and rest[:1] == ["ensures"]:
+            crate, _, path = called.partition("::")
+            names = requires_names(crate, path.replace("::", "."), "ensures")
+            for k, name in enumerate(names):
+                old = ["1"] * k + ([] if k == len(names) - 1 else ["0"])
+                if rest[1 : 1 + len(old)] == old:
+                    rest = ["ensures", name] + rest[1 + len(old) :]
+                    break
         return [r.strip("«»") if r not in ("«of»", "«as»", "«in»") else r for r in rest]
 
     def callee(self, goal):
@@ -241,6 +254,12 @@ class Function:
         # within a cycle they stay a pair
         if call and len(call[0]) > 1 and not call[1]:
             made = as_record(turned, *call)
+            if made is None:
+                self.left.append(f"{goal} is answered by no tuple")
+            return made or turned
+        own = requires_names(self.crate, self.path, "ensures")
+        if own and re.match(r"(?:" + re.escape(self.path) + r"-)?returns", goal or ""):
+            made = as_record(turned, own, False)
             if made is None:
                 self.left.append(f"{goal} is answered by no tuple")
             return made or turned

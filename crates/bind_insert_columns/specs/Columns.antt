@@ -24,7 +24,7 @@ use Rattle.image_parts.specs.Layout.{name}
 use Rattle.rules.specs.declared.Class.TheVariants.{SchemaMismatch, ConstraintViolation}
 use Rattle.rules.specs.declared.Refusal.{Refusal}
 use Rattle.rules.specs.Lists.{Text, same, any, all, find}
-use Rattle.rules.specs.Answers.{given, refused, ◌>>=◌, ◌>>◌}
+use Rattle.rules.specs.Answers.{given, refused, ◌>>=◌}
 use Rattle.rules.specs.Tables.{ColumnSchema, TableSchema}
 use Rattle.rules.specs.Bound.{BoundColumnRef}
 use Rattle.rules.specs.Lookup.{bound_columns, ref_named, column_by_name, in_key}

@@ -97,7 +97,7 @@ module _ {row codes : List ℕ} {n j total at e : ℕ} (w : Valued row codes n j
   pub valued_on : {k : ℕ} → m ≡ measured.Is k → Valued row codes n (j + 1) (total + (4 + k))
   valued_on {k} e = record {
     at = λ cs es b q h.
-        let t = turn d h in
+        let t = turn {f = expression} d h in
         let u = drop_turn j cs (omega (arith, q)) in
         let s = sized_is value {m = m} (says t.value u.0 t.holds (coded_at j b u.1)) e in
         grown_more (w.at cs es b q h) (insert_values (drop (j + 1) cs) (drop (j + 1) es)) s.value
@@ -107,7 +107,7 @@ module _ {row codes : List ℕ} {n j total at e : ℕ} (w : Valued row codes n j
   pub valued_off : {r : Refusal} → m ≡ measured.Refused r → (cs : List BoundColumnRef) (es : List Expr) → Coded codes cs → n ≡ length cs → Holds (list_of 2 expression) row es
       → measured.Refused r ≡ sized (list_of 4 value) (insert_values cs es)
   valued_off e cs es b q h =
-      let t = turn d h in
+      let t = turn {f = expression} d h in
       let u = drop_turn j cs (omega (arith, q)) in
       grown_refused (w.at cs es b q h)
       (ap₂ insert_values u.1 t.rest ∙ values_next u.0 (drop (j + 1) cs) t.value (drop (j + 1) es)
@@ -149,7 +149,7 @@ module _ {rows codes : List ℕ} {n i total at e : ℕ} (w : Rowed rows codes n 
   pub rowed_on : {k : ℕ} → m ≡ measured.Is k → Rowed rows codes n (i + 1) (total + (4 + k))
   rowed_on e = record {
     at = λ cs rs b q h.
-        let t = turn d h in
+        let t = turn {f = list_of 2 expression} d h in
         let s = sized_is (list_of 4 value) {m = m} (says cs t.value b q t.holds) e in
         grown_more (w.at cs rs b q h) (each (insert_row cs) (drop (i + 1) rs)) s.value
         (ap (each (insert_row cs)) t.rest ∙ each_on (insert_row cs) t.value (drop (i + 1) rs) s.gives) s.long;
@@ -157,7 +157,7 @@ module _ {rows codes : List ℕ} {n i total at e : ℕ} (w : Rowed rows codes n 
 
   pub rowed_off : {r : Refusal} → m ≡ measured.Refused r → Measures codes n (list_of 2 (list_of 2 expression)) rows (list_of 4 (list_of 4 value)) (λ cs. each (insert_row cs)) (measured.Refused r)
   rowed_off e cs rs b q h =
-      let t = turn d h in
+      let t = turn {f = list_of 2 expression} d h in
       grown_refused (w.at cs rs b q h)
       (ap (each (insert_row cs)) t.rest ∙ each_off (insert_row cs) t.value (drop (i + 1) rs) (sized_off (list_of 4 value) {m = m} (says cs t.value b q t.holds) e))
 

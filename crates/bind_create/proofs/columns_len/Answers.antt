@@ -12,6 +12,7 @@ use Rattle.image_parts.specs.Layout.{name, column_definition}
 use Rattle.bind_create.specs.Defined.{room_for}
 use Rattle.bind_repeats.specs.Short.{short_part, short_length, short_inside, in_column}
 use Rattle.bind_create.proofs.Names.{room_next, room_end}
+use Rattle.image_value.specs.Parts.{column_schema}
 use Rattle.bind_create.proofs.columns_len.Goals as goal
 
 pub parts-n-requires : goal.parts-n-requires

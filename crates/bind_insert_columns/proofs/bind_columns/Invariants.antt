@@ -1,13 +1,9 @@
 -- `bind_insert_columns::bind_columns` meets its contract. The invariant: the columns so far are bound and their bytes stand in the array.
 use Prim.Native.Nat.{◌+◌, ◌-◌, ◌*◌, ◌≤◌}
-use mathlib.Core.Path.{◌≡◌, sym, ap, ◌∙◌, subst}
-use native.Mathlib.Omega.{arith}
+use mathlib.Core.Path.{◌≡◌}
 use lib.ListN.{length}
-use Rattle.bytes_bundle.specs.Held.{Along, along, along_on, list_bundle}
-use Rattle.image_parts.specs.Layout.{name}
-use Rattle.bind_insert_columns.specs.Columns.{name_part, text_within, Binding, bound_off, binding, bind_repeated, bind_unknown, bind_more, bind_end}
-use Rattle.bind_insert_columns.specs.Small.{AtMost, is_most, refused_most}
-use borrow.Author.Rules.{rules}
+use Rattle.bytes_bundle.specs.Held.{Along}
+use Rattle.bind_insert_columns.specs.Columns.{Binding}
 use Rattle.bind_insert_columns.proofs.bind_columns.Given as goal
 
 abbrev pub invariant-loop-i : goal.invariant-loop-i

@@ -1,13 +1,12 @@
 -- `bind_insert_columns::has_name` meets its contract. The invariant: what the names that are left decide.
-use Prim.Native.Nat.{◌-◌}
 use mathlib.Core.Path.{sym, ◌∙◌}
-use Rattle.bytes_bundle.specs.Held.{list_bundle, Along, along, along_on, Left, left, left_stop, left_on, left_end}
+use Rattle.bytes_bundle.specs.Held.{list_bundle, along, along_on, left, left_stop, left_on, left_end}
 use Rattle.image_catalogue.specs.Entries.{any_hit, any_miss}
 use Rattle.rules.specs.Lists.{same}
 use Rattle.rules.specs.Names.{canonical}
 use Rattle.rules.specs.Statements.{Name}
 use Rattle.image_parts.specs.Layout.{name}
-use Rattle.bind_insert_columns.specs.Columns.{name_part, is_among}
+use Rattle.bind_insert_columns.specs.Columns.{name_part}
 use borrow.Author.Rules.{rules}
 use Rattle.bind_insert_columns.proofs.has_name.Goals as goal
 

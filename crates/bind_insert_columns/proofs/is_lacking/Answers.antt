@@ -8,7 +8,6 @@ use Rattle.rules.specs.Lists.{same, any}
 use Rattle.rules.specs.Names.{canonical}
 use Rattle.rules.specs.Analyze.{missing}
 use Rattle.bind_insert_columns.specs.Columns.{is_among, among}
-use borrow.Author.Rules.{rules}
 use Rattle.bind_insert_columns.proofs.is_lacking.Goals as goal
 
 pub returns-then-not-is_needed : goal.returns-then-not-is_needed

@@ -1,9 +1,8 @@
 -- `bind_insert_columns::lacks` meets its contract. The invariant: what the columns that are left decide.
-use Prim.Native.Nat.{◌-◌}
 use mathlib.Core.Path.{sym}
-use Rattle.bytes_bundle.specs.Held.{list_bundle, Along, along, along_on, part_is}
+use Rattle.bytes_bundle.specs.Held.{list_bundle, along, along_on, part_is}
 use Rattle.image_value.specs.Parts.{column_schema}
-use Rattle.bind_insert_columns.specs.Columns.{listed, Lacking, lacking_none, lacking_on, lacking_hit, lacking_end}
+use Rattle.bind_insert_columns.specs.Columns.{listed, lacking_none, lacking_on, lacking_hit, lacking_end}
 use borrow.Author.Rules.{rules}
 use Rattle.bind_insert_columns.proofs.lacks.Goals as goal
 

@@ -1,10 +1,7 @@
 -- `bind_insert_columns::lacks` meets its contract. The invariant: what the columns that are left decide.
 use Prim.Native.Nat.{◌-◌}
-use mathlib.Core.Path.{sym}
-use Rattle.bytes_bundle.specs.Held.{list_bundle, Along, along, along_on, part_is}
-use Rattle.image_value.specs.Parts.{column_schema}
-use Rattle.bind_insert_columns.specs.Columns.{listed, Lacking, lacking_none, lacking_on, lacking_hit, lacking_end}
-use borrow.Author.Rules.{rules}
+use Rattle.bytes_bundle.specs.Held.{Along}
+use Rattle.bind_insert_columns.specs.Columns.{Lacking}
 use Rattle.bind_insert_columns.proofs.lacks.Given as goal
 
 abbrev pub invariant-loop-i : goal.invariant-loop-i

@@ -5,7 +5,6 @@ use lib.ListN.{length}
 use Rattle.bytes_bundle.specs.Held.{held}
 use Rattle.bind_table_ref.specs.Small.{known, table_name_short}
 use Rattle.bind_table_ref.specs.Room.{bound_table_length}
-use borrow.Author.Rules.{rules}
 use Rattle.bind_table_ref.proofs.table_size.Goals as goal
 
 pub table_ref_len-requires : goal.table_ref_len-requires
