@@ -231,7 +231,8 @@ class Function:
 
         def one(m):
             head = m[1]
-            if head not in aliases:
+            # `{f = ..}` names an implicit argument
+            if head not in aliases or (m.string[m.start() - 1 : m.start()] == "{" and m.string[m.end() :].startswith(" =")):
                 return m[0]
             fields = re.findall(r"\.(«" + NAME + r"»|" + NAME + r")", m[2])
             at, fields = walk(head, fields)

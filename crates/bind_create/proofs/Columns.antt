@@ -16,8 +16,7 @@ use Rattle.bind_options.specs.Steps.{state_of, step_of}
 use Rattle.rules.specs.declared.Class.{Class}
 use Rattle.rules.specs.declared.Class.TheVariants.{ConstraintViolation, UnsupportedSql}
 use Rattle.rules.specs.declared.DataType.TheVariants as data-type
-use Rattle.rules.specs.Lists.{Text}
-use Rattle.rules.specs.Answers.{Answer, given, refused, refuse, ◌>>=◌, ◌>>◌}
+use Rattle.rules.specs.Answers.{Answer, given, refused, refuse, ◌>>=◌}
 use Rattle.rules.specs.Statements.{ColumnType, known, other_type, OptionKind, option_null, option_not_null, option_key, option_key_with_characteristics, other_option, ColumnOption, ColumnDefinition}
 use Rattle.rules.specs.Analyze.{OptionState, no_options, option_of, options, said_null, data_type}
 use Rattle.image_parts.specs.Layout.{column_type_no, option_kind_no, option}

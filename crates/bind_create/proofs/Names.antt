@@ -4,7 +4,7 @@ use mathlib.Core.Path.{◌≡◌, refl, sym, ap, ap₂, ◌∙◌}
 use mathlib.Core.Bool.{Bool, true, false, ◌&&◌, ◌||◌, true≢false}
 use mathlib.Core.List.{List, [], ◌∷◌, ◌++◌, map}
 use mathlib.Core.Option.{none, some, some-injective, none-ne-some}
-use Prim.Native.Nat.{ℕ, zero, suc, ◌+◌, ◌-◌, ◌≤◌}
+use Prim.Native.Nat.{ℕ, zero, suc, ◌+◌, ◌≤◌}
 use native.Mathlib.Omega.{arith}
 use lib.Dec.{eqb}
 use lib.ListN.{length, take, drop, get_or, length-append, drop_of_length-le}
@@ -23,7 +23,6 @@ use Rattle.rules.specs.Names.{canonical}
 use Rattle.rules.specs.Tables.{ColumnSchema, same_id, column_named}
 use Rattle.rules.specs.Statements.{Name, ColumnDefinition}
 use Rattle.rules.specs.Analyze.{key_ids}
-use Rattle.image_parts.specs.Layout.{name}
 use Rattle.bind_create.specs.Defined.{schema, schemas, room_for}
 
 -- ---- texts

@@ -32,8 +32,8 @@ use Rattle.rules.specs.Names.{canonical, simple_name}
 use Rattle.rules.specs.Tables.{Catalogue, table_by_name}
 use Rattle.rules.specs.Statements.{ObjectName, plain, qualified, ColumnDefinition, CreateTable}
 use Rattle.rules.proofs.Theorems.Answered.{never_given, bind_given}
-use Rattle.rules.specs.Analyze.{define_columns, constraints, key_ids, analyze_create_table}
-use Rattle.image_parts.specs.Layout.{name, column_definition, create}
+use Rattle.rules.specs.Analyze.{define_columns, key_ids, analyze_create_table}
+use Rattle.image_parts.specs.Layout.{column_definition, create}
 use Rattle.bind_create.specs.declared.Key.{Key}
 use Rattle.bind_create.specs.declared.Key.TheVariants.{Nowhere, Column, Constrained}
 use Rattle.bind_create.specs.declared.Keyed.{Keyed}

@@ -10,7 +10,6 @@ use Rattle.bind_table.specs.Steps.{sized_refused, sized_as, sized_is, sized_off}
 use Rattle.image_parts.specs.Layout.{object_name}
 use Rattle.bind_create.specs.Within.{short_table}
 use Rattle.bind_create.proofs.Whole.{create_exists, create_query, create_feature, create_unnamed, create_named, new_short}
-use borrow.Author.Rules.{rules}
 use Rattle.bind_create.proofs.analyze_create_table.Goals as goal
 
 pub returns-then-if_not_exists : goal.returns-then-if_not_exists

@@ -1,18 +1,15 @@
 -- `bind_create::columns_len` meets its contract. The invariant: what was added up and what is left make the whole.
 use borrow.Author.Rules.{rules}
-use Prim.Native.Nat.{◌+◌, ◌-◌, ◌*◌, ◌≤◌}
+use Prim.Native.Nat.{◌+◌, ◌≤◌}
 use mathlib.Core.Path.{◌≡◌, ap, ◌∙◌}
-use mathlib.Core.List.{List}
 use lib.ListN.{length, drop, drop_of_length-le}
 use native.Mathlib.Omega.{arith}
-use Rattle.bytes_format.proofs.Formats.{list_of}
-use Rattle.bytes_bundle.specs.Held.{Holds, Along, along, along_on, list_bundle, list_count, part_is, turn}
-use Rattle.rules.specs.Statements.{ColumnDefinition}
-use Rattle.image_parts.specs.Layout.{name, column_definition}
+use Rattle.bytes_bundle.specs.Held.{along, along_on, list_bundle, list_count, part_is, turn}
+use Rattle.image_parts.specs.Layout.{column_definition}
 use Rattle.bind_create.specs.Defined.{room_for}
 use Rattle.bind_repeats.specs.Short.{short_part, short_length, short_inside, in_column}
 use Rattle.bind_create.proofs.Names.{room_next, room_end}
-use Rattle.image_value.specs.Parts.{column_schema}
+use Rattle.image_parts.specs.Layout.{column_definition}
 use Rattle.bind_create.proofs.columns_len.Goals as goal
 
 pub parts-n-requires : goal.parts-n-requires
@@ -50,7 +47,7 @@ loop-i-preserved c =
       along_on l.invariant.0 d,
       omega (arith, c.column_schema_len.ensures.0, w, l.invariant.1),
       λ cs h.
-          let t = turn {f = column_schema 2} d h in
+          let t = turn {f = column_definition} d h in
           let e : room_for (drop l.i cs) ≡ 26 + length t.value.name.text + room_for (drop (l.i + 1) cs) = ap room_for t.rest ∙ room_next t.value (drop (l.i + 1) cs) in
           omega (arith, c.column_schema_len.ensures.0, l.invariant.2 cs h, e, ap length (c.name_text-text.ensures t.value.name (c.column_name.ensures t.value t.holds))),
     )

@@ -1,17 +1,13 @@
 -- `bind_create::columns_len` meets its contract. The invariant: what was added up and what is left make the whole.
-use borrow.Author.Rules.{rules}
 use Prim.Native.Nat.{◌+◌, ◌-◌, ◌*◌, ◌≤◌}
-use mathlib.Core.Path.{◌≡◌, ap, ◌∙◌}
+use mathlib.Core.Path.{◌≡◌}
 use mathlib.Core.List.{List}
-use lib.ListN.{length, drop, drop_of_length-le}
-use native.Mathlib.Omega.{arith}
+use lib.ListN.{drop}
 use Rattle.bytes_format.proofs.Formats.{list_of}
-use Rattle.bytes_bundle.specs.Held.{Holds, Along, along, along_on, list_bundle, list_count, part_is, turn}
+use Rattle.bytes_bundle.specs.Held.{Holds, Along}
 use Rattle.rules.specs.Statements.{ColumnDefinition}
-use Rattle.image_parts.specs.Layout.{name, column_definition}
+use Rattle.image_parts.specs.Layout.{column_definition}
 use Rattle.bind_create.specs.Defined.{room_for}
-use Rattle.bind_repeats.specs.Short.{short_part, short_length, short_inside, in_column}
-use Rattle.bind_create.proofs.Names.{room_next, room_end}
 use Rattle.bind_create.proofs.columns_len.Given as goal
 
 abbrev pub invariant-loop-i : goal.invariant-loop-i

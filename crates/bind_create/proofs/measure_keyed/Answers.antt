@@ -5,7 +5,6 @@ use Rattle.bytes_bundle.specs.Held.{held}
 use Rattle.bind_create.specs.Defined.{schemas, key_of}
 use Rattle.bind_create.specs.Within.{few_columns}
 use Rattle.bind_create.proofs.Whole.{counted_is, counted_off, key_few, keyed_given, keyed_off}
-use borrow.Author.Rules.{rules}
 use Rattle.bind_create.proofs.measure_keyed.Goals.{After-columns}
 use Rattle.bind_create.proofs.measure_keyed.Goals as goal
 

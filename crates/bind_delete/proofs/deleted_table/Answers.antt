@@ -134,7 +134,7 @@ resolve_direct_table-requires c =
     let p = (start5 (goal.at.resolve_direct_table-requires c).Else-has_limit).requires in
     let s = one_table (goal.at.resolve_direct_table-requires c).Else-code-eq1 in
     let h = c.table_of.ensures s.value s.whole in
-    (p.0, (is_held {(goal.at.resolve_direct_table-requires c).After-from_of-f = table_with_joins} h, delete_table p.1 c.from_of-f.ensures s h))
+    (p.0, (is_held {f = table_with_joins} h, delete_table p.1 c.from_of-f.ensures s h))
 
 pub returns : goal.returns
 returns c = λ cat v hc h.

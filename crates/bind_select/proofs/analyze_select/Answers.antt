@@ -10,7 +10,6 @@ use Rattle.rules.specs.Statements.{Query}
 use Rattle.image_parts.specs.Layout.{select, query_body, selection}
 use Rattle.bind_select.specs.Selects.{with_clauses, not_plain_lem, plainly}
 use Rattle.bind_select.specs.Within.{SelectWithin, Plain, plain, plain_within}
-use borrow.Author.Rules.{rules}
 use Rattle.bind_select.proofs.analyze_select.Goals.{Else-has_clauses}
 use Rattle.bind_select.proofs.analyze_select.Goals.{After-body_of-b}
 use Rattle.bind_select.proofs.analyze_select.Goals.{Else-body_code-eq0}

@@ -10,7 +10,6 @@ use Rattle.bind_table.specs.Steps.{off_resolved}
 use Rattle.image_parts.specs.Layout.{table_with_joins, select_from, select}
 use Rattle.bind_select.specs.Selects.{selected_table, with_features, from_several, from_one}
 use Rattle.bind_select.specs.Within.{Sole, sole, select_table}
-use borrow.Author.Rules.{rules}
 use Rattle.bind_select.proofs.selected_table.Goals.{Else-has_features}
 use Rattle.bind_select.proofs.selected_table.Goals.{After-from_of-f}
 use Rattle.bind_select.proofs.selected_table.Goals.{Else-from_code-eq0}
@@ -52,7 +51,7 @@ resolve_direct_table-requires c =
     let p = c.requires in
     let w = one_table (goal.at.resolve_direct_table-requires c).Else-from_code-eq0 in
     let h = c.table_of.ensures w.value w.whole in
-    (p.0, (is_held {(goal.at.resolve_direct_table-requires c).After-from_of-f = table_with_joins} h, select_table p.1 c.from_of-f.ensures w h))
+    (p.0, (is_held {f = table_with_joins} h, select_table p.1 c.from_of-f.ensures w h))
 
 pub returns : goal.returns
 returns c = λ cat v hc h.
