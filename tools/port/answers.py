@@ -211,7 +211,9 @@ class Function:
                 return var if at == place else f"(goal.at.{self.names[place]} {var}).{self.names[at]}"
             return f"(goal.at.{goal} {var}).{self.names[at]}"
 
-        out, at_text = [], 0
+        # what an arm gives is known by its parts' names
+        for m in list(re.finditer(r"let (" + NAME + r") = (" + NAME + r"(?:\.before)*\.[\w-]+\.given) in\s+", text)):
+            text = substitute(text.replace(m[0], ""), {m[1]: m[2]})
         let = re.compile(r"let (" + NAME + r") = (" + NAME + r"(?:\.before)*) in\s+")
         # place aliases, in order
         while True:

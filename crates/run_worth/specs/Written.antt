@@ -11,7 +11,7 @@ use Rattle.image_bound.specs.Spelt.{int_length, text_length, bool_length, null_l
 use Rattle.bind_expression.specs.Small.{short_text}
 use Rattle.image_row.specs.Layout.{row}
 use Rattle.rules.specs.Bound.{Value}
-use Rattle.rules.specs.Evaluate.{at, is_true}
+use Rattle.rules.specs.Evaluate.{is_true}
 use Rattle.rules.specs.Lists.{Text}
 use Rattle.rules.specs.Rows.{Row}
 use Rattle.image_value.specs.Parts.{value}

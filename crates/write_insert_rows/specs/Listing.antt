@@ -107,7 +107,7 @@ module _ {A B : Type 0} {f : Format A} {F : A → Answer B} {s : List ℕ} where
 
   made : {bs : List B} {n at e : ℕ} → Making f F s bs → Stepped 2 s n at e → Made f F (take (e - at) (drop at s)) bs n
   made {n = n} {at = at} {e = e} w d = held w.is (λ xs h.
-      let t = turn d h in
+      let t = turn {f = f} d h in
       let u = each_turn F n xs (w.gives xs h) t.rest in
       record { value = u.0; rest = u.2; gives = λ a k. ap F (held_once f {s = take (e - at) (drop at s)} k t.holds) ∙ u.1 })
 
@@ -159,7 +159,7 @@ module _ {A B : Type 0} {f : Format A} {F : A → Answer B} {g : Format B} {s o 
     listing_more d p q = record {
       at = λ bs v.
           let m = made v d in
-          held v.is (λ xs h. listed_more (b.at bs v) m.rest (p.at (turn d h).value m.value (turn d h).holds (m.gives (turn d h).value (turn d h).holds)) q);
+          held v.is (λ xs h. listed_more (b.at bs v) m.rest (p.at (turn {f = f} d h).value m.value (turn d h).holds (m.gives (turn d h).value (turn d h).holds)) q);
     }
 
     -- all parts, behind their number

@@ -7,7 +7,6 @@ use Rattle.image_catalogue.specs.Values.{catalogue_list, catalogue_tables}
 use Rattle.bind_table.specs.Steps.{step_on, step_off, sized_as, sized_refused, resolved_at, resolved_off}
 use Rattle.bind_delete.specs.Deletes.{delete_steps}
 use Rattle.bind_delete.specs.Within.{held_both, delete_condition}
-use borrow.Author.Rules.{rules}
 use Rattle.bind_delete.proofs.analyze_delete.Goals as goal
 
 pub deleted_table-requires : goal.deleted_table-requires

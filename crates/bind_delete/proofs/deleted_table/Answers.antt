@@ -21,7 +21,6 @@ use Rattle.bind_delete.specs.Deletes.{
   not_one_lem,
 }
 use Rattle.bind_delete.specs.Within.{Sole, sole, delete_table}
-use borrow.Author.Rules.{rules}
 use Rattle.bind_delete.proofs.deleted_table.Goals.{Else-has_tables}
 use Rattle.bind_delete.proofs.deleted_table.Goals.{Else-has_using}
 use Rattle.bind_delete.proofs.deleted_table.Goals.{Else-has_returning}
@@ -31,43 +30,27 @@ use Rattle.bind_delete.proofs.deleted_table.Goals.{After-from_of-f}
 use Rattle.bind_delete.proofs.deleted_table.Goals.{Else-code-eq1}
 use Rattle.bind_delete.proofs.deleted_table.Goals as goal
 
--- the beginning, from behind each mark
-abbrev start1 : Else-has_tables → Start
-start1 c = (goal.at.Else-has_tables c).Start
-
-abbrev start2 : Else-has_using → Start
-start2 c = start1 (goal.at.Else-has_using c).Else-has_tables
-
-abbrev start3 : Else-has_returning → Start
-start3 c = start2 (goal.at.Else-has_returning c).Else-has_using
-
-abbrev start4 : Else-has_order_by → Start
-start4 c = start3 (goal.at.Else-has_order_by c).Else-has_returning
-
-abbrev start5 : Else-has_limit → Start
-start5 c = start4 (goal.at.Else-has_limit c).Else-has_order_by
-
 -- what holds behind each
-no_tables : (c : Else-has_tables) (v : Delete) → Holds deletion (start1 c).args.d.now v → v.tables ≡ false
+no_tables : (c : Else-has_tables) (v : Delete) → Holds deletion c.args.d.now v → v.tables ≡ false
 no_tables c v h = sym (c.has_tables.ensures v h) ∙ c.if-has_tables.false
 
-no-using : (c : Else-has_using) (v : Delete) → Holds deletion (start2 c).args.d.now v → v.using_clause ≡ false
+no-using : (c : Else-has_using) (v : Delete) → Holds deletion c.args.d.now v → v.using_clause ≡ false
 no-using c v h = sym (c.has_using.ensures v h) ∙ c.if-has_using.false
 
-no-returning : (c : Else-has_returning) (v : Delete) → Holds deletion (start3 c).args.d.now v → v.returning ≡ false
+no-returning : (c : Else-has_returning) (v : Delete) → Holds deletion c.args.d.now v → v.returning ≡ false
 no-returning c v h = sym (c.has_returning.ensures v h) ∙ c.if-has_returning.false
 
-no-order-by : (c : Else-has_order_by) (v : Delete) → Holds deletion (start4 c).args.d.now v → v.order_by ≡ false
+no-order-by : (c : Else-has_order_by) (v : Delete) → Holds deletion c.args.d.now v → v.order_by ≡ false
 no-order-by c v h = sym (c.has_order_by.ensures v h) ∙ c.if-has_order_by.false
 
-unmarked : (c : Else-has_limit) (cat : Catalogue) (v : Delete) → Holds deletion (start5 c).args.d.now v
+unmarked : (c : Else-has_limit) (cat : Catalogue) (v : Delete) → Holds deletion c.args.d.now v
     → deleted_table cat v ≡ (rules.delete_from v.from >>= rules.resolve_direct_table cat)
 unmarked c cat v h =
     past_marks cat v (no_tables (goal.at.Else-has_limit c).Else-has_tables v h) (no-using (goal.at.Else-has_limit c).Else-has_using v h) (no-returning (goal.at.Else-has_limit c).Else-has_returning v h) (no-order-by (goal.at.Else-has_limit c).Else-has_order_by v h)
     (sym (c.has_limit.ensures v h) ∙ c.if-has_limit.false)
 
 from_is : (c : After-from_of-f) → Is delete_from c.from_of-f.result.now
-from_is c = held (start5 (goal.at.After-from_of-f c).Else-has_limit).requires.1.is (λ v h. is_held {f = delete_from} (c.from_of-f.ensures v h))
+from_is c = held c.requires.1.is (λ v h. is_held {f = delete_from} (c.from_of-f.ensures v h))
 
 one_table : (c : Else-code-eq1) → Sole c.from_of-f.result.now
 one_table c = sole (from_is (goal.at.Else-code-eq1 c).After-from_of-f) c.from_code-code.ensures c.if-code-eq0.false c.if-code-eq1.false
@@ -80,14 +63,14 @@ returns-then-has_tables c = λ cat v hc h.
     off_resolved _ (deleted_table cat v) c.unresolved.ensures (beside_tables cat v (sym (c.has_tables.ensures v h) ∙ c.if-has_tables.true))
 
 pub has_using-requires : goal.has_using-requires
-has_using-requires c = (start1 (goal.at.has_using-requires c).Else-has_tables).requires.1.is
+has_using-requires c = c.requires.1.is
 
 pub returns-then-has_using : goal.returns-then-has_using
 returns-then-has_using c = λ cat v hc h.
     off_resolved _ (deleted_table cat v) c.unresolved-then-has_using.ensures (beside_using cat v (no_tables (goal.at.returns-then-has_using c).Else-has_tables v h) (sym (c.has_using.ensures v h) ∙ c.if-has_using.true))
 
 pub has_returning-requires : goal.has_returning-requires
-has_returning-requires c = (start2 (goal.at.has_returning-requires c).Else-has_using).requires.1.is
+has_returning-requires c = c.requires.1.is
 
 pub returns-then-has_returning : goal.returns-then-has_returning
 returns-then-has_returning c = λ cat v hc h.
@@ -95,7 +78,7 @@ returns-then-has_returning c = λ cat v hc h.
     (beside_returning cat v (no_tables (goal.at.returns-then-has_returning c).Else-has_tables v h) (no-using (goal.at.returns-then-has_returning c).Else-has_using v h) (sym (c.has_returning.ensures v h) ∙ c.if-has_returning.true))
 
 pub has_order_by-requires : goal.has_order_by-requires
-has_order_by-requires c = (start3 (goal.at.has_order_by-requires c).Else-has_returning).requires.1.is
+has_order_by-requires c = c.requires.1.is
 
 pub returns-then-has_order_by : goal.returns-then-has_order_by
 returns-then-has_order_by c = λ cat v hc h.
@@ -103,7 +86,7 @@ returns-then-has_order_by c = λ cat v hc h.
     (beside_order_by cat v (no_tables (goal.at.returns-then-has_order_by c).Else-has_tables v h) (no-using (goal.at.returns-then-has_order_by c).Else-has_using v h) (no-returning (goal.at.returns-then-has_order_by c).Else-has_returning v h) (sym (c.has_order_by.ensures v h) ∙ c.if-has_order_by.true))
 
 pub has_limit-requires : goal.has_limit-requires
-has_limit-requires c = (start4 (goal.at.has_limit-requires c).Else-has_order_by).requires.1.is
+has_limit-requires c = c.requires.1.is
 
 pub returns-then-has_limit : goal.returns-then-has_limit
 returns-then-has_limit c = λ cat v hc h.
@@ -111,7 +94,7 @@ returns-then-has_limit c = λ cat v hc h.
     (beside_limit cat v (no_tables (goal.at.returns-then-has_limit c).Else-has_tables v h) (no-using (goal.at.returns-then-has_limit c).Else-has_using v h) (no-returning (goal.at.returns-then-has_limit c).Else-has_returning v h) (no-order-by (goal.at.returns-then-has_limit c).Else-has_order_by v h) (sym (c.has_limit.ensures v h) ∙ c.if-has_limit.true))
 
 pub from_of-f-requires : goal.from_of-f-requires
-from_of-f-requires c = (start5 (goal.at.from_of-f-requires c).Else-has_limit).requires.1.is
+from_of-f-requires c = c.requires.1.is
 
 pub from_code-code-requires : goal.from_code-code-requires
 from_code-code-requires c = from_is (goal.at.from_code-code-requires c).After-from_of-f
@@ -131,7 +114,7 @@ table_of-requires c = from_is (goal.at.table_of-requires c).After-from_of-f
 
 pub resolve_direct_table-requires : goal.resolve_direct_table-requires
 resolve_direct_table-requires c =
-    let p = (start5 (goal.at.resolve_direct_table-requires c).Else-has_limit).requires in
+    let p = c.requires in
     let s = one_table (goal.at.resolve_direct_table-requires c).Else-code-eq1 in
     let h = c.table_of.ensures s.value s.whole in
     (p.0, (is_held {f = table_with_joins} h, delete_table p.1 c.from_of-f.ensures s h))
@@ -139,6 +122,6 @@ resolve_direct_table-requires c =
 pub returns : goal.returns
 returns c = λ cat v hc h.
     let s = one_table (goal.at.returns c).Else-code-eq1 in
-    subst (λ (a : Answer TableSchema). ResolvedAs (start5 (goal.at.returns c).Else-has_limit).args.c.now a c.resolve_direct_table.result)
+    subst (λ (a : Answer TableSchema). ResolvedAs c.args.c.now a c.resolve_direct_table.result)
     (sym (unmarked (goal.at.returns c).Else-has_limit cat v h ∙ step_on _ (ap rules.delete_from (held_once delete_from (c.from_of-f.ensures v h) s.whole))))
     (c.resolve_direct_table.ensures cat s.value hc (c.table_of.ensures s.value s.whole))

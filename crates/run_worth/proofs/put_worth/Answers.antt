@@ -7,7 +7,6 @@ use Rattle.image_bound.specs.Written.{spelt}
 use Rattle.image_value.specs.Parts.{value}
 use Rattle.run_values.specs.Worths.{sound_spelt}
 use Rattle.run_worth.specs.Written.{null_is, int_is, bool_is, text_is, never_fault, sound_by, null_room, int_room, bool_room, text_room}
-use borrow.Author.Rules.{rules}
 use Rattle.run_worth.proofs.put_worth.Goals as goal
 
 pub put_null-requires : goal.put_null-requires
@@ -23,16 +22,15 @@ pub text_of-requires : goal.text_of-requires
 text_of-requires c = let p = c.requires in (p.0.0, sound_spelt (sound_by c.in-Text.is p.0.1))
 
 pub put_text-requires : goal.put_text-requires
-put_text-requires c = let p = c.requires in (let z = c.w-in-Text-1.given in text_room p.0.0 p.1 z.0.0 z.0.1.0 z.1 c.text_of.ensures)
+put_text-requires c = let p = c.requires in (text_room p.0.0 p.1 c.in-Text.side c.in-Text.n c.in-Text.is c.text_of.ensures)
 
 pub returns-in-Null : goal.returns-in-Null
 returns-in-Null c = λ x v h q. spelt (ap value.write (null_is x _ c.in-Null.is q)) c.put_null.ensures
 
 pub returns-in-Int : goal.returns-in-Int
 returns-in-Int c = λ x v h q.
-    let z = c.w-1.given in
-    let fits : SFits w64 z.0.0 = record { sfits = c.in-Int.known_told-1-own.given.0.1 } in
-    spelt (ap value.write (int_is x _ z.1 q)) (rw (to_z-of_z fits) at c.put_int.ensures)
+    let fits : SFits w64 c.in-Int.z = record { sfits = c.in-Int.known_told-1-own.given.0.1 } in
+    spelt (ap value.write (int_is x _ c.in-Int.is q)) (rw (to_z-of_z fits) at c.put_int.ensures)
 
 pub returns-in-Bool : goal.returns-in-Bool
 returns-in-Bool c = λ x v h q. spelt (ap value.write (bool_is x _ c.in-Bool.is q)) c.put_bool.ensures

@@ -25,8 +25,8 @@ loop-i-preserved c =
     let t = c.loop-i-test.true in (
       search rules,
       elim c.if-r-c.branch [
-        then-r-c+else-c-r w ↦ above ranges c.args.c c.loop-i.i _ t w.if-c-r.false
-      | else-r-c w ↦ below ranges c.args.c c.loop-i.i _ t w.if-r-c.false
+        | then-r-c+else-c-r w ↦ above ranges c.args.c c.loop-i.i _ t w.if-c-r.false
+        | else-r-c w ↦ below ranges c.args.c c.loop-i.i _ t w.if-r-c.false
       ]
           ∙ c.loop-i.invariant.1,
     )

@@ -1,0 +1,15 @@
+-- `write_create::key_marks` meets its contract. The invariant: the columns of the ids so far are marked.
+use borrow.Author.Rules.{rules}
+use mathlib.Core.Path.{◌≡◌, subst, ◌∙◌}
+use Prim.Native.Nat.{ℕ, ◌-◌, ◌≤◌, ◌<◌}
+use native.Mathlib.Omega.{arith}
+use lib.ListN.{length, take}
+use Rattle.write_create.specs.Parts.{KeyMarks}
+use Rattle.write_create.proofs.Ids.{no_marks, marks_more}
+use Rattle.write_create.proofs.key_marks.Given as goal
+
+abbrev pub invariant-loop-k : goal.invariant-loop-k
+invariant-loop-k l = (l.k ≤ l.n) × (length l.ids ≡ 64) × (length l.marks ≡ 64) × KeyMarks l.marks (take l.k l.ids)
+
+abbrev pub decreases-loop-k : goal.decreases-loop-k
+decreases-loop-k l = l.n - l.k
