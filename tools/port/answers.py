@@ -244,12 +244,12 @@ class Function:
             # a member of a cycle was given its measure beside what it requires
             if self.in_cycle and new[:2] == ["requires", "1"]:
                 new = new[:1] + new[2:]
-            elif self.in_cycle and new[:1] == ["requires"]:
-                self.left.append(f"the measure is cited: {head}{m[2]}")
+            elif self.in_cycle and new[:2] == ["requires", "0"]:
+                return "⟪measure⟫"
             return ".".join([var] + new)
 
         # what is known of `!x` speaks of x itself now: a lemma that turned it goes, and what took it as it was takes it turned
-        text = PATH.sub(one, text)
+        text = re.sub(r"⟪measure⟫, |, ⟪measure⟫", "", PATH.sub(one, text))
         text = re.sub(r"\bnot-(?:true|false) (?:_|c\.[^\s()]+) (c\.[^\s()]*)", r"\1⟪direct⟫", text)
         turned = re.sub(r"(?<![^\s(){};,])(c\.(?:if|loop)-not-[^\s(){};,.]*\.(?:true|false))(?!⟪|[^\s(){};,])", r"(ap not \1)", text)
         self.negated = self.negated or turned != text
@@ -436,14 +436,18 @@ def convert_cycle(crate, folder, cycle, told):
         notes = []
         if "\nuse " in part or part.startswith("use "):
             comment += [line for line in lines if line.startswith("--")]
-            uses += [line for line in lines if line.startswith("use ")]
+            uses += re.findall(r"(?m)^use [^\n{]*(?:\{[^}]*\}[^\n]*|)$", part)
             continue
         while lines and lines[0].startswith("--"):
             notes.append(lines.pop(0))
         body = "\n".join(lines)
         m = re.match(r"(?:abbrev )?(" + NAME + r") : (" + NAME + r")\.(Need-|invariant-loop|decreases-loop)(\S*)", body)
         if not m or m[2] not in members:
-            if "abbrev" not in body and "close" not in body:
+            measure = re.match(r"abbrev μ-?\S* : .*\nμ-?(\S*) κs a = (.*)", body)
+            if measure:
+                own = next((it for it in members.values() if norm(it) == norm(measure[1])), next(iter(members.values())))
+                invariants.append(f"abbrev pub decreases-{own} : goal.decreases-{own}\ndecreases-{own} l = {measure[2]}")
+            elif "abbrev" not in body and "close" not in body:
                 left.append("not turned: " + body.split("\n")[0])
             continue
         f = functions[m[2]]

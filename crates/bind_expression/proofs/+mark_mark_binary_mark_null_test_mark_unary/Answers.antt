@@ -69,7 +69,7 @@ mark_binary-mark-requires t c =
 
 pub mark_binary-mark-requires-in-Is : goal.mark_binary-mark-requires-in-Is
 mark_binary-mark-requires-in-Is t c =
-    let o = last c.type_inv.e c.requires.markable _ c.requires.k_value.0 (omega arith) in (omega (arith, c.requires.markable, o.0), o.1)
+    let o = last c.type_inv.e c.requires.markable _ c.requires.k_value.0 (omega arith) in (omega (arith, o.0), o.1)
 
 pub mark_binary-two_operands-requires : goal.mark_binary-two_operands-requires
 mark_binary-two_operands-requires t c =

@@ -1,14 +1,29 @@
 -- The cycle {write, write_binary, write_null_test, write_unary} meets its contracts, and ends: `write` at i calls the others at i, and they call
 -- `write` below i, so that the measure is 2i for them and 2i + 1 for `write`. What each node's bytes are made of is in `Steps`.
 use mathlib.Core.Path.{sym, ◌∙◌}
-use Prim.Native.Nat.{ℕ, ◌+◌, ◌*◌, ◌<◌}
 use native.Mathlib.Omega.{arith}
-use borrow.Author.Rules.{rules}
 use Rattle.image_expression.specs.Laws.{last_operand, first_operand, known_kind}
 use Rattle.write_expression.specs.Binds.{leaf_binds, number_binds, parens_binds, null_binds, operator_binds, binary_binds}
 use Rattle.write_expression.specs.Writes.{leaf_room, un_writable, parens_writable, left_writable, right_writable}
 use Rattle.write_expression.proofs.Known.{known}
 use Rattle.write_expression.proofs.Steps.{
+  parens_writes,
+  leaf_end,
+  leaf_root,
+  leaf_writes,
+  un_root,
+  un_fine,
+  null_writes,
+  operator_writes,
+  first,
+  left_rows,
+  left_contents,
+  bin_sums,
+  bin_root,
+  bin_long,
+  bin_fine,
+  bin_writes,
+}
 use Rattle.write_expression.proofs.+write_write_binary_write_null_test_write_unary.Goals as goal
 
 pub write-kind-k-requires : goal.write-kind-k-requires
@@ -113,7 +128,7 @@ write_binary-write-b-requires t c =
     let w = c.requires.writable in
     let u = binary_binds w.binds _ c.requires.k_value.0 c.requires.k_value.1 _ c.span.ensures in
     let o = last_operand (known c.type_inv.e) w.node _ c.requires.k_value.0 (omega arith) in
-    (omega (arith, c.requires.writable, o.0), right_writable w u o.1 (first w u c.write-a.ensures))
+    (omega (arith, o.0), right_writable w u o.1 (first w u c.write-a.ensures))
 
 pub write_binary-two_operands-m-requires : goal.write_binary-two_operands-m-requires
 write_binary-two_operands-m-requires t c =

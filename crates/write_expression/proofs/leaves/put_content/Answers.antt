@@ -20,7 +20,6 @@ use Rattle.write_expression.proofs.Contents.{
   null_rule,
   never_ruled,
 }
-use borrow.Author.Rules.{rules}
 use Rattle.write_expression.proofs.leaves.put_content.Goals as goal
 
 pub put_column-requires : goal.put_column-requires
