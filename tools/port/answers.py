@@ -151,11 +151,11 @@ class Function:
                             return [arm[0], new] + rest[len(old_fields) :]
         if norm(self.places[at][2][0]) == label:
             return [self.places[at][2][1]] + self.inside(at, rest)
-        if self.parent(at) is None and label in ("args", "requires", "ranges"):
-            return fields
+        if self.parent(at) is None and label in ("args", "requires", "ranges", "well-formed"):
+            return [label.replace("-", "_")] + [it.replace("-", "_") if label == "args" and k == 0 else it for k, it in enumerate(rest)]
         # the prover has fewer places than it had: a step's label tells it, wherever it is on the way
         found = [k for k in self.line(goal_place) if norm(self.places[k][2][0]) == label or any(norm(v[1]) == label for v in self.told["typed"][k])]
-        found += [k for k in self.line(goal_place) if self.parent(k) is None and label in ("args", "requires", "ranges")]
+        found += [k for k in self.line(goal_place) if self.parent(k) is None and label in ("args", "requires", "ranges", "well-formed")]
         if found and found[0] != at:
             return self.step(goal_place, found[0], fields)
         bare = re.sub(r"\d+$", "", label)
@@ -167,6 +167,8 @@ class Function:
 
     def inside(self, at, rest):
         called = self.places[at][3]
+        if rest[:1] == ["type-inv"]:
+            rest = ["type_inv"] + rest[1:]
         if called and rest[:1] == ["ensures"]:
             crate, _, path = called.partition("::")
             names = requires_names(crate, path.replace("::", "."), "ensures")
@@ -254,6 +256,14 @@ class Function:
         turned = re.sub(r"(?<![^\s(){};,])(c\.(?:if|loop)-not-[^\s(){};,.]*\.(?:true|false))(?!⟪|[^\s(){};,])", r"(ap not \1)", text)
         self.negated = self.negated or turned != text
         turned = named(turned.replace("⟪direct⟫", ""), self.requires)
+        for m in list(re.finditer(r"let (" + NAME + r") = c\.([\w-]+)\.ensures in", turned)):
+            for place_ in self.places:
+                if place_[3] and place_[2][1] == m[2]:
+                    of, _, path = place_[3].partition("::")
+                    names = requires_names(of, path.replace("::", "."), "ensures")
+                    for k, name in enumerate(names):
+                        old = m[1] + ".1" * k + ("" if k == len(names) - 1 else ".0")
+                        turned = re.sub(r"(?<![^\s(){};,])" + re.escape(old) + r"(?![\w])", f"{m[1]}.{name}", turned)
         # within a cycle they stay a pair
         if call and len(call[0]) > 1 and not call[1]:
             made = as_record(turned, *call)
@@ -378,7 +388,7 @@ def convert(crate, folder, path, told):
     uses = [u for u in uses if not u.startswith((f"use {module}.Statement", f"use {module}.Tie"))]
     seen = []
     for u in uses:
-        if u not in seen:
+        if u not in seen or not u.startswith("use "):
             seen.append(u)
     uses = seen
     says = [c for c in comment if not re.match(r"-- Assumes nothing", c)]

@@ -17,7 +17,7 @@ use Rattle.text_numbers.specs.declared.Literal.TheVariants as number
 use Rattle.text_numbers.specs.Literal as literal
 use Rattle.image_row.specs.Obeyed.{obeyed_at}
 use Rattle.rules.specs.declared.Ordinal.{Ordinal}
-use Rattle.rules.specs.Bound.{Value, BoundColumnRef}
+use Rattle.rules.specs.Bound.{BoundColumnRef}
 use Rattle.rules.specs.Evaluate.{at, column_value, literal_value}
 use Rattle.rules.specs.Lists.{Text}
 use Rattle.rules.specs.Lookup.{bound_column, column_by_name}

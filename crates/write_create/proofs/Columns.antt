@@ -116,7 +116,7 @@ module _ {s : List ℕ} {ids : List ColumnId} {at : ℕ} {o : List ℕ} {i lengt
     {from e : ℕ} (d : Stepped 2 s i from e) where
   pub column_room : ColumnRoom (take (e - from) (drop from s)) to body o'
   column_room = held b.short.is (λ cs h.
-      let t = turn d h in
+      let t = turn {f = column_definition} d h in
       let z = listed_space (b.listed cs h) (made_next ids cs i t.rest) in
       let r = b.room.fits cs h in
       let m = made_room ids cs in
@@ -135,7 +135,7 @@ module _ {s : List ℕ} {ids : List ColumnId} {at : ℕ} {o : List ℕ} {i lengt
       → ((v : ColumnDefinition) → Holds column_definition (take (e - from) (drop from s)) v → Wrote o' body ((column_schema 4).write (outside_null ids (schema i v))) r o'')
       → (body ≤ r) × (r - body ≤ 150) × (to + 4 ≤ length o'')
   column_went w = held b.short.is (λ cs h.
-      let t = turn d h in
+      let t = turn {f = column_definition} d h in
       let x = w t.value t.holds in
       let q = leb-true (length t.value.name.text) 128 ((short_part b.short d).short t.value t.holds) in
       let n = column_size ids i t.value in

@@ -11,7 +11,7 @@ use Rattle.bind_table.specs.Tables.{new_name}
 use Rattle.rules.specs.declared.ColumnId.{ColumnId}
 use Rattle.rules.specs.declared.Class.TheVariants.{ConstraintViolation, UnsupportedSql}
 use Rattle.rules.specs.Lists.{Text, is_some, is_empty}
-use Rattle.rules.specs.Answers.{given, ◌>>=◌, ◌>>◌}
+use Rattle.rules.specs.Answers.{given, ◌>>=◌}
 use Rattle.rules.specs.Names.{canonical, simple_name}
 use Rattle.rules.specs.Tables.{ColumnSchema, Catalogue, table_by_name}
 use Rattle.rules.specs.Statements.{Name, ObjectName, plain, qualified, CreateTable}

@@ -1,6 +1,6 @@
 -- A sign directly over a number, by the kinds of the two nodes: 12 and 13 are the signs, 2 is a number.
 -- Assumes nothing.
-use Rattle.std.specs.Prelude.{◌≡◌, Bool, true, false, ◌&&◌, ℕ, ◌-◌, ◌<◌, ◌≤◌, ltb, eqb}
+use Rattle.std.specs.Prelude.{◌≡◌, Bool, true, false, ◌&&◌, ℕ, ◌<◌, ◌≤◌, ltb, eqb}
 use Rattle.std.proofs.Common.{◌∙◌, sym, ap, arith, lit<}
 use Rattle.std.proofs.Math.Path.{refl}
 use Rattle.std.proofs.Math.Bool.{true≢false}

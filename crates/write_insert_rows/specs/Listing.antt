@@ -13,7 +13,7 @@ use Rattle.bytes_format.proofs.Formats.{list_of}
 use Rattle.bytes_bundle.specs.Bundle.{parts_of, Stepped}
 use Rattle.bytes_bundle.specs.Held.{Is, Holds, Along, turn, part_is, is_held, held, held_once, list_count}
 use Rattle.rules.specs.declared.Refusal.{Refusal}
-use Rattle.rules.specs.Answers.{Answer, given, refused, each, ◌>>=◌}
+use Rattle.rules.specs.Answers.{Answer, given, refused, each}
 use Rattle.rules.proofs.Theorems.Answered.{never_given}
 use Rattle.rules.proofs.Theorems.Steps.{step}
 use Rattle.rules.specs.Bound.{Value}

@@ -17,7 +17,6 @@ use Rattle.rules.specs.Marking.{bind_expression}
 use Rattle.rules.specs.Statements.{Target, Assignment, Update, Expr}
 use Rattle.rules.specs.Tables.{ColumnSchema, TableSchema, Catalogue, same_id}
 use Rattle.rules.proofs.Theorems.Steps.{step, step_found, step_past, step_fine}
-use Rattle.bind_update.specs.Assigned.{assigned}
 use Rattle.bind_update.specs.Targets.{target_column, column_named_lem}
 use Rattle.bind_update.specs.Updated.{updated, update_table}
 

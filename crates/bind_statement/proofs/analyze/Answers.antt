@@ -5,7 +5,6 @@ use Rattle.image_bound.specs.Sizes.{show_transactions_length}
 use Rattle.bind_table.specs.Steps.{sized_given, sized_as}
 use Rattle.rules.specs.Trimmed.{is_show_transactions}
 use Rattle.bind_statement.specs.Dispatch.{shows_transactions, goes_by_kind}
-use borrow.Author.Rules.{rules}
 use Rattle.bind_statement.proofs.analyze.Goals as goal
 
 pub returns-then-is_show_transactions : goal.returns-then-is_show_transactions

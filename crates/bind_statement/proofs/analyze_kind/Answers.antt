@@ -38,7 +38,7 @@ use Rattle.bind_statement.specs.Kinds.{
   rollback_behind,
   show_tables_behind,
   other_behind,
-use borrow.Author.Rules.{rules}
+}
 use Rattle.bind_statement.proofs.analyze_kind.Goals.{After-kind_code}
 use Rattle.bind_statement.proofs.analyze_kind.Goals as goal
 

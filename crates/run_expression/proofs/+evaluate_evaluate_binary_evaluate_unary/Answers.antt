@@ -1,9 +1,7 @@
 -- The cycle {evaluate, evaluate_binary, evaluate_unary} meets its contracts, and ends: `evaluate` at i calls the others at i, and they call
 -- `evaluate` below i, so that the measure is 2i for them and 2i + 1 for `evaluate`. What each node comes to is in `Steps`.
 use mathlib.Core.Path.{◌∙◌, sym}
-use Prim.Native.Nat.{ℕ, ◌+◌, ◌*◌, ◌<◌}
 use native.Mathlib.Omega.{arith}
-use borrow.Author.Rules.{rules}
 use Rattle.run_expression.proofs.Places.{known, images, last, first, kinds}
 use Rattle.run_expression.proofs.Steps.{literal_says, parens_says, unary_says, binary_says, sound_over}
 use Rattle.run_expression.proofs.+evaluate_evaluate_binary_evaluate_unary.Goals as goal
@@ -66,7 +64,7 @@ evaluate_binary-evaluate-a-requires t c =
 
 pub evaluate_binary-evaluate-b-requires : goal.evaluate_binary-evaluate-b-requires
 evaluate_binary-evaluate-b-requires t c =
-    let o = last c.requires.workable c.type_inv.e _ c.requires.k_value.0 (omega arith) in (omega (arith, c.requires.workable, o.0), o.1)
+    let o = last c.requires.workable c.type_inv.e _ c.requires.k_value.0 (omega arith) in (omega (arith, o.0), o.1)
 
 pub evaluate_binary-two_operands-requires : goal.evaluate_binary-two_operands-requires
 evaluate_binary-two_operands-requires t c =

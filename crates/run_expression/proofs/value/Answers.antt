@@ -1,7 +1,6 @@
 -- `run_expression::value` meets its contract: the root is the last node.
 use Rattle.run_expression.proofs.Places.{known, root}
 use Rattle.run_expression.proofs.Steps.{whole}
-use borrow.Author.Rules.{rules}
 use Rattle.run_expression.proofs.value.Goals as goal
 
 pub overflow_sub-nodes : goal.overflow_sub-nodes

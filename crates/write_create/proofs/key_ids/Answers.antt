@@ -10,7 +10,6 @@ use Rattle.bind_create.specs.Keys.{NamedAt}
 use Rattle.bind_create.specs.Within.{few_columns, few_names}
 use Rattle.bind_create.specs.Places.{part_at, part_holds, column_in, column_short, constraint_in, part_shows}
 use Rattle.write_create.proofs.Ids.{no_key, key_names}
-use borrow.Author.Rules.{rules}
 use Rattle.write_create.proofs.key_ids.Goals as goal
 
 pub part-requires : goal.part-requires

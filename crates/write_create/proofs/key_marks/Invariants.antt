@@ -1,11 +1,8 @@
 -- `write_create::key_marks` meets its contract. The invariant: the columns of the ids so far are marked.
-use borrow.Author.Rules.{rules}
-use mathlib.Core.Path.{◌≡◌, subst, ◌∙◌}
-use Prim.Native.Nat.{ℕ, ◌-◌, ◌≤◌, ◌<◌}
-use native.Mathlib.Omega.{arith}
+use mathlib.Core.Path.{◌≡◌}
+use Prim.Native.Nat.{◌-◌, ◌≤◌}
 use lib.ListN.{length, take}
 use Rattle.write_create.specs.Parts.{KeyMarks}
-use Rattle.write_create.proofs.Ids.{no_marks, marks_more}
 use Rattle.write_create.proofs.key_marks.Given as goal
 
 abbrev pub invariant-loop-k : goal.invariant-loop-k

@@ -1,19 +1,12 @@
 -- `write_create::name_ids` meets its contract. The invariant: with the ids so far, the names that are left make the ids of all.
 use borrow.Author.Rules.{rules}
-use Prim.Native.Nat.{◌-◌, ◌<◌}
-use mathlib.Core.Path.{◌≡◌, ◌∙◌}
-use mathlib.Core.List.{List, [], map}
+use Prim.Native.Nat.{◌<◌}
+use mathlib.Core.Path.{◌∙◌}
 use native.Mathlib.Omega.{arith}
-use lib.ListN.{length, take, drop, length-set}
-use Rattle.bytes_format.proofs.Formats.{list_of}
-use Rattle.bytes_bundle.specs.Held.{Holds, Along, along, along_on, list_bundle, list_count, turn}
+use lib.ListN.{length, length-set}
+use Rattle.bytes_bundle.specs.Held.{along, along_on, list_bundle, list_count, turn}
 use Rattle.bind_repeats.specs.Short.{short_part}
-use Rattle.rules.specs.declared.ColumnId.{ColumnId}
-use Rattle.rules.specs.Answers.{given}
-use Rattle.rules.specs.Names.{canonical}
-use Rattle.rules.specs.Statements.{Name, ColumnDefinition}
-use Rattle.rules.specs.Analyze.{key_ids}
-use Rattle.image_parts.specs.Layout.{name, column_definition}
+use Rattle.image_parts.specs.Layout.{name}
 use Rattle.bind_create.specs.Defined.{schemas}
 use Rattle.write_create.proofs.Ids.{names_more, names_over}
 use Rattle.write_create.proofs.name_ids.Goals as goal
@@ -43,7 +36,7 @@ loop-k-preserved c =
       along_on l.invariant.0 d,
       length-set l.ids _ _ ∙ l.invariant.1,
       λ cs ns x h k e.
-          let t = turn d k in
+          let t = turn {f = name} d k in
           let few : l.k < length l.ids = omega (arith, l.invariant.0.count, l.invariant.1, c.loop-k-test.true, c.requires.1.few) in
           names_more (schemas 0 cs) l.ids l.k ns (l.invariant.2 cs ns x h k e) t.rest few (λ y f. c.id_of.ensures cs t.value y h t.holds f),
     )

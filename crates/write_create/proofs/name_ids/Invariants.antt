@@ -1,13 +1,10 @@
 -- `write_create::name_ids` meets its contract. The invariant: with the ids so far, the names that are left make the ids of all.
-use borrow.Author.Rules.{rules}
-use Prim.Native.Nat.{◌-◌, ◌<◌}
-use mathlib.Core.Path.{◌≡◌, ◌∙◌}
+use Prim.Native.Nat.{◌-◌}
+use mathlib.Core.Path.{◌≡◌}
 use mathlib.Core.List.{List, [], map}
-use native.Mathlib.Omega.{arith}
-use lib.ListN.{length, take, drop, length-set}
+use lib.ListN.{length, take, drop}
 use Rattle.bytes_format.proofs.Formats.{list_of}
-use Rattle.bytes_bundle.specs.Held.{Holds, Along, along, along_on, list_bundle, list_count, turn}
-use Rattle.bind_repeats.specs.Short.{short_part}
+use Rattle.bytes_bundle.specs.Held.{Holds, Along}
 use Rattle.rules.specs.declared.ColumnId.{ColumnId}
 use Rattle.rules.specs.Answers.{given}
 use Rattle.rules.specs.Names.{canonical}
@@ -15,13 +12,12 @@ use Rattle.rules.specs.Statements.{Name, ColumnDefinition}
 use Rattle.rules.specs.Analyze.{key_ids}
 use Rattle.image_parts.specs.Layout.{name, column_definition}
 use Rattle.bind_create.specs.Defined.{schemas}
-use Rattle.write_create.proofs.Ids.{names_more, names_over}
 use Rattle.write_create.proofs.name_ids.Given as goal
 
 abbrev pub invariant-loop-k : goal.invariant-loop-k
 invariant-loop-k l = Along l.names l.n l.k l.at × (length l.ids ≡ 64) × (
-    (cs : List ColumnDefinition) (ns : List Name) (l : List ColumnId) → Holds (list_of 2 column_definition) l.columns cs → Holds (list_of 2 name) l.names ns
-    → key_ids (schemas 0 cs) [] (map canonical ns) ≡ given l → key_ids (schemas 0 cs) (take l.k l.ids) (map canonical (drop l.k ns)) ≡ given l)
+    (cs : List ColumnDefinition) (ns : List Name) (js : List ColumnId) → Holds (list_of 2 column_definition) l.columns cs → Holds (list_of 2 name) l.names ns
+    → key_ids (schemas 0 cs) [] (map canonical ns) ≡ given js → key_ids (schemas 0 cs) (take l.k l.ids) (map canonical (drop l.k ns)) ≡ given js)
 
 abbrev pub decreases-loop-k : goal.decreases-loop-k
 decreases-loop-k l = l.n - l.k

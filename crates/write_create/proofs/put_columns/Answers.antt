@@ -2,21 +2,20 @@
 use borrow.Author.Rules.{rules}
 use mathlib.Core.Path.{◌∙◌}
 use mathlib.Core.List.{List}
-use Prim.Native.Nat.{◌-◌, ◌<◌}
+use Prim.Native.Nat.{◌<◌}
 use lib.ListN.{take}
 use native.Mathlib.Omega.{arith}
 use Rattle.rules.specs.declared.ColumnId.{ColumnId}
 use Rattle.image_bound.specs.Beside.{listed_none, listed_more, listed_all, beside_long, wrote_long}
-use Rattle.bytes_bundle.specs.Held.{held, Along, along, along_on, list_bundle, list_count, turn}
+use Rattle.bytes_bundle.specs.Held.{held, along, along_on, list_bundle, list_count, turn}
 use Rattle.bind_repeats.specs.Short.{short_part}
 use Rattle.image_parts.specs.Layout.{column_definition}
-use Rattle.write_create.specs.Parts.{KeyMarks}
-use Rattle.write_create.proofs.Columns.{made_next, made_length, room_least, ColumnsSoFar, column_room, column_went}
+use Rattle.write_create.proofs.Columns.{made_next, made_length, room_least, column_room, column_went}
 use Rattle.write_create.proofs.put_columns.Goals.{Start}
 use Rattle.write_create.proofs.put_columns.Goals as goal
 
 abbrev key : (c : Start) → List ColumnId
-key c = take c.args.key-len c.args.ids
+key c = take c.args.key_len c.args.ids
 
 pub key_marks-marks-requires : goal.key_marks-marks-requires
 key_marks-marks-requires c = c.requires.2
@@ -34,7 +33,7 @@ pub overflow_mul-body : goal.overflow_mul-body
 overflow_mul-body c = omega (arith, c.requires.0.few, c.parts-n.ensures)
 
 pub overflow_add-body : goal.overflow_add-body
-overflow_add-body c = held c.requires.0.short.is (λ cs h. omega (arith, c.requires.0.few, c.parts-n.ensures, c.requires.1.fits cs h, room_least cs, c.put_count-lengths.ensures.end, c.well-formed.0.0))
+overflow_add-body c = held c.requires.0.short.is (λ cs h. omega (arith, c.requires.0.few, c.parts-n.ensures, c.requires.1.fits cs h, room_least cs, c.put_count-lengths.ensures.end, c.well_formed.0.0))
 
 pub first-from-requires : goal.first-from-requires
 first-from-requires c = let r = list_bundle column_definition c.requires.0.short.is in search rules

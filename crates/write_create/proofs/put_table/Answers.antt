@@ -7,7 +7,6 @@ use Rattle.bytes_bundle.specs.Held.{Holds}
 use Rattle.image_parts.specs.Layout.{object_name}
 use Rattle.bind_create.specs.Within.{few_columns}
 use Rattle.write_create.proofs.Whole.{key_in, plain_name, name_end, columns_room, columns_end, table_wrote}
-use borrow.Author.Rules.{rules}
 use Rattle.write_create.proofs.put_table.Goals as goal
 
 pub key_ids-ids-requires : goal.key_ids-ids-requires

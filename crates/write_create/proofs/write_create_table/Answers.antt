@@ -3,7 +3,6 @@ use mathlib.Core.Path.{refl}
 use native.Mathlib.Omega.{arith}
 use Rattle.image_bound.specs.Beside.{wrote_long}
 use Rattle.write_create.proofs.Whole.{place_in, key_read, writable, key_given, whole_wrote, never_refused}
-use borrow.Author.Rules.{rules}
 use Rattle.write_create.proofs.write_create_table.Goals as goal
 
 pub find_key-requires : goal.find_key-requires

@@ -1,12 +1,10 @@
 -- `write_insert_rows::put_rows` meets its contract. The invariant: the rows so far are written, and their lengths in front of all.
 use Prim.Native.Nat.{◌-◌, ◌≤◌}
-use native.Mathlib.Omega.{arith}
 use Rattle.bytes_format.proofs.Formats.{list_of}
-use Rattle.bytes_bundle.specs.Held.{Along, along, along_on, list_bundle}
+use Rattle.bytes_bundle.specs.Held.{Along}
 use Rattle.image_value.specs.Parts.{value}
 use Rattle.image_expression.specs.Expression.{expression}
-use Rattle.write_insert_rows.specs.Listing.{literals, Listing, list_room, listing_none, listing_gives, listing_room, listing_more, listing_all, puts_forth, puts_long}
-use borrow.Author.Rules.{rules}
+use Rattle.write_insert_rows.specs.Listing.{literals, Listing}
 use Rattle.write_insert_rows.proofs.put_rows.Given as goal
 
 abbrev pub invariant-loop-i : goal.invariant-loop-i

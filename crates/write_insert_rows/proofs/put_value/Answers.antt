@@ -3,7 +3,6 @@ use mir.Facts.{to_z-of_z}
 use mir.Syntax.{w64}
 use mir.Val.{SFits}
 use Rattle.write_insert_rows.specs.Values.{int_room, text_room, bool_room, null_room, literal_never, int_puts, text_puts, bool_puts, null_puts}
-use borrow.Author.Rules.{rules}
 use Rattle.write_insert_rows.proofs.put_value.Goals as goal
 
 pub insert_literal-requires : goal.insert_literal-requires
@@ -26,9 +25,8 @@ put_null-requires c = null_room c.args.e.now _ c.insert_literal.ensures c.requir
 
 pub returns-in-Int : goal.returns-in-Int
 returns-in-Int c =
-    let z = c.z-1.given in
-    let fits : SFits w64 z.0.0 = record { sfits = c.in-Int.known_told-1-own.given.0.1 } in
-    int_puts c.args.e.now _ c.insert_literal.ensures z.0.0 z.1 (rw (to_z-of_z fits) at c.put_int.ensures)
+    let fits : SFits w64 c.in-Int.z = record { sfits = c.in-Int.known_told-1-own.given.0.1 } in
+    int_puts c.args.e.now _ c.insert_literal.ensures c.in-Int.z c.in-Int.is (rw (to_z-of_z fits) at c.put_int.ensures)
 
 pub returns-in-Text : goal.returns-in-Text
 returns-in-Text c = text_puts c.args.e.now _ c.insert_literal.ensures _ c.in-Text.is c.text_of.ensures.0 c.put_text.ensures

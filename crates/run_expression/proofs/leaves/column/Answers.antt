@@ -2,7 +2,6 @@
 use Rattle.text_names.specs.Compared.{named}
 use Rattle.rules.specs.Names.{canonical}
 use Rattle.run_expression.proofs.Looked.{stands, column_says, column_none}
-use borrow.Author.Rules.{rules}
 use Rattle.run_expression.proofs.leaves.column.Goals as goal
 
 pub stored-requires : goal.stored-requires

@@ -11,7 +11,6 @@ use Rattle.run_expression.specs.Works.{Says}
 use Rattle.run_expression.proofs.Arms.{least, past, only, among}
 use Rattle.run_expression.proofs.Stored.{says_bool, says_null, says_fault}
 use Rattle.run_expression.proofs.Steps.{leaf_says, number_says, string_says}
-use borrow.Author.Rules.{rules}
 use Rattle.run_expression.proofs.leaves.leaf.Goals as goal
 
 pub column-requires : goal.column-requires

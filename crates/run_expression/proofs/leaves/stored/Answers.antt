@@ -4,7 +4,6 @@ use mir.Val.{SFits}
 use mir.Facts.{to_z-of_z}
 use Rattle.image_value.specs.Values.{code_shows}
 use Rattle.run_expression.proofs.Stored.{is_value, int_stored, bool_stored, text_stored, null_stored}
-use borrow.Author.Rules.{rules}
 use Rattle.run_expression.proofs.leaves.stored.Goals as goal
 
 pub type_code-requires : goal.type_code-requires
@@ -17,7 +16,7 @@ pub bool_of-requires : goal.bool_of-requires
 bool_of-requires c = code_shows (is_value c.args.r.now c.args.n _ c.value_at-v.ensures c.requires.image) c.type_code.ensures 2 c.in-2.is
 
 pub returns-in-0 : goal.returns-in-0
-returns-in-0 c = λ x h e. let fits : SFits w64 c.int_of.result = record { sfits = c.int_of.type-inv } in rw (to_z-of_z fits) (int_stored c.args.r.now c.args.n _ c.value_at-v.ensures c.type_code.ensures x h e c.in-0.is c.int_of.ensures)
+returns-in-0 c = λ x h e. let fits : SFits w64 c.int_of.result = record { sfits = c.int_of.type_inv } in rw (to_z-of_z fits) (int_stored c.args.r.now c.args.n _ c.value_at-v.ensures c.type_code.ensures x h e c.in-0.is c.int_of.ensures)
 
 pub returns-in-1 : goal.returns-in-1
 returns-in-1 c = λ x h e. text_stored c.args.r.now c.args.n _ c.value_at-v.ensures c.type_code.ensures x h e c.in-1.is

@@ -1,0 +1,28 @@
+-- `run_plan::land` meets its contract.
+use mathlib.Core.Path.{sym, ap, ◌∙◌}
+use Rattle.bind_update.specs.Targets.{target_column, targeted_is, targeted_off}
+use Rattle.bind_update.specs.Within.{assignment_target_lem, assignment_value}
+use Rattle.run_plan.specs.Runs.{placed, land_fault, land_off, land_on}
+use borrow.Author.Rules.{rules}
+use Rattle.run_plan.proofs.land.Goals as goal
+
+pub work_out-requires : goal.work_out-requires
+work_out-requires c = let p = c.requires in (p.0, assignment_value p.1 c.value_of.ensures)
+
+pub returns-then-is_fault : goal.returns-then-is_fault
+returns-then-is_fault c = λ v x y hv hx hy.
+    ap placed (sym (land_fault v x y (sym c.is_fault.ensures ∙ c.if-is_fault.true) (c.work_out.ensures v hv x hx y.value (c.value_of.ensures y hy))))
+
+pub target_column-requires : goal.target_column-requires
+target_column-requires c =
+    let p = c.requires in
+    (p.0.schema, assignment_target_lem p.1 c.target_of.ensures)
+
+pub returns-in-Is : goal.returns-in-Is
+returns-in-Is c = λ v x y hv hx hy.
+    let g = targeted_is _ (target_column v y.target) (c.target_column.ensures v y.target hv (c.target_of.ensures y hy)) c.in-Is.is in
+    ap placed (sym (land_on v x y (sym c.is_fault.ensures ∙ c.if-is_fault.false) (c.work_out.ensures v hv x hx y.value (c.value_of.ensures y hy)) g))
+
+pub returns-in-Refused : goal.returns-in-Refused
+returns-in-Refused c = λ v x y hv hx hy.
+    ap placed (sym (land_off v x y (targeted_off _ (target_column v y.target) (c.target_column.ensures v y.target hv (c.target_of.ensures y hy)) c.in-Refused.is)))
