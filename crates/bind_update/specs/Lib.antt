@@ -3,4 +3,3 @@ pub mod Targets
 pub mod Assigned
 pub mod Within
 pub mod Updated
-pub mod Turns

@@ -9,7 +9,8 @@ use Rattle.bind_where.specs.Short.{at_most, at_most_off}
 use Rattle.bind_table.specs.Steps.{sized_given, sized_refused, sized_is, sized_off}
 use Rattle.rules.specs.Lookup.{in_key}
 use Rattle.bind_update.specs.Targets.{name_long}
-use Rattle.bind_update.specs.Assigned.{assigned, assign_key, assign_value, assign_is}
+use Rattle.bind_update.specs.Assigned.{assigned}
+use Rattle.bind_update.proofs.Assigning.{assign_key, assign_value, assign_is}
 use Rattle.bind_update.proofs.assign_size.Goals as goal
 
 pub returns-then-in_key : goal.returns-then-in_key

@@ -9,7 +9,7 @@ use Rattle.bind_table.specs.Steps.{sized_refused, sized_as}
 use Rattle.rules.specs.Statements.{Assignment}
 use Rattle.rules.specs.Tables.{TableSchema}
 use Rattle.bind_update.specs.Targets.{target_column, ColumnGiven, targeted_is, targeted_off}
-use Rattle.bind_update.specs.Assigned.{judged_target, judged_repeated, judged_assigned}
+use Rattle.bind_update.proofs.Assigning.{judged_target, judged_repeated, judged_assigned}
 use Rattle.bind_update.specs.Within.{assignment_target_lem, assignment_value}
 use Rattle.bind_update.proofs.assignment_size.Goals.{In-Is}
 use Rattle.bind_update.proofs.assignment_size.Goals as goal

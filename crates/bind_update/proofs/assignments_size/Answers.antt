@@ -8,7 +8,7 @@ use Rattle.image_parts.specs.Layout.{assignment}
 use Rattle.bind_where.specs.Short.{at_most}
 use Rattle.bind_table.specs.Steps.{sized_refused}
 use Rattle.bind_update.specs.Within.{assignments_part, assignments_targets}
-use Rattle.bind_update.specs.Turns.{few_parts, measuring_none, measuring_off, measuring_on, measuring_end}
+use Rattle.bind_update.proofs.Turns.{few_parts, measuring_none, measuring_off, measuring_on, measuring_end}
 use borrow.Author.Rules.{rules}
 use Rattle.bind_update.proofs.assignments_size.Goals.{After-count_len}
 use Rattle.bind_update.proofs.assignments_size.Goals as goal

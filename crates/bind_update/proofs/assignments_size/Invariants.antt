@@ -1,7 +1,7 @@
 -- `bind_update::assignments_size` meets its contract. The invariant: the sum is the length of the list of what the assignments so far are bound to.
 use Prim.Native.Nat.{◌+◌, ◌*◌, ◌-◌, ◌≤◌}
 use Rattle.bytes_bundle.specs.Held.{Along}
-use Rattle.bind_update.specs.Turns.{Measuring}
+use Rattle.bind_update.proofs.Turns.{Measuring}
 use Rattle.bind_update.proofs.assignments_size.Given as goal
 
 abbrev pub invariant-loop-i : goal.invariant-loop-i

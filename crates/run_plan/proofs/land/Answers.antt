@@ -3,7 +3,6 @@ use mathlib.Core.Path.{sym, ap, ◌∙◌}
 use Rattle.bind_update.specs.Targets.{target_column, targeted_is, targeted_off}
 use Rattle.bind_update.specs.Within.{assignment_target_lem, assignment_value}
 use Rattle.run_plan.specs.Runs.{placed, land_fault, land_off, land_on}
-use borrow.Author.Rules.{rules}
 use Rattle.run_plan.proofs.land.Goals as goal
 
 pub work_out-requires : goal.work_out-requires

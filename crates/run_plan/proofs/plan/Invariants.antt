@@ -1,14 +1,9 @@
 -- `run_plan::plan` meets its contract. The invariant: the assignments so far are noted.
-use mathlib.Core.Path.{◌≡◌, ap, ◌∙◌}
+use mathlib.Core.Path.{◌≡◌}
 use Prim.Native.Nat.{◌-◌, ◌≤◌}
-use native.Mathlib.Omega.{arith}
-use lib.ListN.{length, length-set}
-use borrow.Author.Rules.{rules}
-use Rattle.bytes_bundle.specs.Held.{Along, along, along_on, list_bundle, part_is}
-use Rattle.image_parts.specs.Layout.{assignment}
-use Rattle.bind_update.specs.Within.{assignments_part}
-use Rattle.run_plan.specs.Runs.{lands_below}
-use Rattle.run_plan.specs.Turns.{Planning, planning_none, planning_on, planning_off, planning_end}
+use lib.ListN.{length}
+use Rattle.bytes_bundle.specs.Held.{Along}
+use Rattle.run_plan.specs.Turns.{Planning}
 use Rattle.run_plan.proofs.plan.Given as goal
 
 abbrev pub invariant-loop-i : goal.invariant-loop-i

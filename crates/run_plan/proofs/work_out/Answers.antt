@@ -1,6 +1,5 @@
 -- `run_plan::work_out` meets its contract.
 use Rattle.bind_where.specs.Short.{known, short_names}
-use borrow.Author.Rules.{rules}
 use Rattle.run_plan.proofs.work_out.Goals as goal
 
 pub value-requires : goal.value-requires

@@ -21,7 +21,8 @@ use Rattle.rules.specs.Answers.{refused}
 use Rattle.rules.specs.Analyze as analyze
 use Rattle.rules.specs.Statements.{Assignment}
 use Rattle.rules.specs.Tables.{TableSchema}
-use Rattle.bind_update.specs.Assigned.{judge_assignment, names, Summed, summed_none, summed_on, going_off, going_end}
+use Rattle.bind_update.specs.Assigned.{judge_assignment}
+use Rattle.bind_update.proofs.Assigning.{names, Summed, summed_none, summed_on, going_off, going_end}
 use Rattle.bind_update.specs.Within.{ShortAssignments}
 use Rattle.bind_update.specs.Updated.{Sound}
 

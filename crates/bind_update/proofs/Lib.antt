@@ -1,0 +1,2 @@
+pub mod Assigning
+pub mod Turns
