@@ -1,13 +1,11 @@
 -- `write_select::put_filter` meets its contract.
 use mathlib.Core.Path.{ap}
-use borrow.Author.Tests.{not-true, not-false}
 use Rattle.image_bound.specs.Written.{spelt}
 use Rattle.bind_where.specs.Filters.{filter_given}
 use Rattle.bind_where.specs.Short.{known}
 use Rattle.bind_where.specs.There.{There, absent, present, there_is, there_reads}
 use Rattle.bind_select.specs.Selects.{Filter}
 use Rattle.write_select.specs.Writes.{unfiltered_wrote, filter_there, filter_ready}
-use borrow.Author.Rules.{rules}
 use Rattle.write_select.proofs.put_filter.Goals.{Else-not-has_condition}
 use Rattle.write_select.proofs.put_filter.Goals as goal
 

@@ -2,7 +2,6 @@
 use native.Mathlib.Omega.{arith}
 use Rattle.image_bound.specs.Beside.{wrote_long}
 use Rattle.write_select.specs.Writes.{room_for_table, room_for_columns, room_for_filter, room_for_head, select_wrote}
-use borrow.Author.Rules.{rules}
 use Rattle.write_select.proofs.put_select.Goals as goal
 
 pub put_table-columns-requires : goal.put_table-columns-requires

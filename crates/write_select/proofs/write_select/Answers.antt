@@ -5,7 +5,6 @@ use Rattle.image_catalogue.specs.Values.{catalogue_list, catalogue_tables}
 use Rattle.bind_table.specs.Steps.{resolved_at, resolved_off}
 use Rattle.image_parts.specs.Layout.{query_body}
 use Rattle.write_select.specs.Writes.{select_holds, select_within, never_refused, bound_ready, bound_whole}
-use borrow.Author.Rules.{rules}
 use Rattle.write_select.proofs.write_select.Goals as goal
 
 pub body_of-requires : goal.body_of-requires
