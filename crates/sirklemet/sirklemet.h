@@ -1,4 +1,4 @@
-/* The proved binder, runner and readers, from the static library that `rt staticlib sirklemet` writes (target/staticlib/libsirklemet.a).
+/* The proved binder, runner and readers, from the static library that `rt lib` writes in this folder (out/libsirklemet.a).
  *
  * Bytes pass as a pointer and a length. The pointer is not NULL, also where the length is 0, and as many bytes can be
  * read there. Any bytes will do otherwise: each function ends, reads nothing else, and writes nothing but what is said to

@@ -1,6 +1,6 @@
 //! The runner that is compared with the judges.
 //!
-//! With SIRKLEMET_STATICLIB, the path of the file that `rt staticlib sirklemet` writes, it is the one of that library, which
+//! With SIRKLEMET_STATICLIB, the path that tools/staticlib prints, it is the one of that library, which
 //! exports `sirklemet_run` as crates/sirklemet/sirklemet.h declares it.
 
 use crate::generate::Case;

@@ -1,8 +1,8 @@
-//! The side that is compared with the Rust: the binder of a static library that `rt staticlib sirklemet` writes. Without one,
+//! The side that is compared with the Rust: the binder of the static library whose path tools/staticlib prints. Without one,
 //! `tools/compare` runs the Rust alone. To compare with it:
 //!
 //! ```text
-//! SIRKLEMET_STATICLIB=target/staticlib/libsirklemet.a tools/compare --seed 1 --count 100000
+//! SIRKLEMET_STATICLIB="$(tools/staticlib)" tools/compare --seed 1 --count 100000
 //! ```
 //!
 //! The library exports `sirklemet_bind` as crates/sirklemet/sirklemet.h declares it. (Plain `bind` is taken: it is the socket
