@@ -1,15 +1,17 @@
 // Binds one statement: the file `catalogue` and a statement image on standard input, and one line out, `bound N` or `refused R`.
 #![tactic(auto)]
 
-ghost use Rattle.io.specs.Counts.{IsPrefixLen};
+ghost use Rattle.std.specs.Io.{ReadsAtMost};
 ghost use Rattle.op_reply.specs.Leaves.{Hears};
 ghost use Rattle.bindcheck.specs.Checked.{check_bytes};
 
-use libc::{STDIN_FILENO, STDOUT_FILENO};
 use op_bind::bind;
 use op_reply::{Reply, refused};
+use std::fs::File;
+use std::io::{self, Read};
+use std::rt::Files;
 
-// The longest input that is judged, and the room for the answer (`io::large_buffer`).
+// The longest input that is judged, and the room for the answer.
 const MOST: usize = 65536;
 
 // What `bind` answers; 7 for a longer input, whatever it holds.
@@ -22,42 +24,52 @@ fn checked(statement: &[u8], catalogue: &[u8]) -> Reply
     if MOST < catalogue.len() {
         return refused(7);
     }
-    let mut out = io::large_buffer();
+    let mut out = [0u8; 65536];
     bind(statement, catalogue, &mut out)
 }
 
-fn say(words: &[u8], number: u64) {
-    io::write_all(STDOUT_FILENO, words);
-    io::print_decimal(STDOUT_FILENO, number);
-    io::write_all(STDOUT_FILENO, b"\n");
+fn say(rt: &impl Print, words: &str, number: u64) -> io::Result<()> {
+    println!(rt; "{words}{number}")
 }
 
-fn say_reply(heard: Reply) {
+fn say_reply(rt: &impl Print, heard: Reply) -> io::Result<()> {
     if heard.refusal == 0 {
-        say(b"bound ", heard.length as u64);
+        say(rt, "bound ", heard.length as u64)
     } else {
-        say(b"refused ", heard.refusal as u64);
+        say(rt, "refused ", heard.refusal as u64)
     }
 }
 
-// How many bytes the file `catalogue` put at the front of `space`: 0 where it can't be read.
-fn read_catalogue(space: &mut [u8]) -> usize
-    ensures { IsPrefixLen result space.new }
+// Reads until `space` is full or the input ends, and returns how many bytes it put at the front of `space`.
+fn read_full(input: &mut impl Read, space: &mut [u8]) -> io::Result<usize>
+    ensures { ReadsAtMost result space.new }
 {
-    let fd = os::open_read(b"catalogue");
-    if fd < 0 {
-        return 0;
+    let mut done = 0;
+    while done < space.len() {
+        let n = input.read(&mut space[done..])?;
+        if n == 0 {
+            break;
+        }
+        done += n;
     }
-    let size = io::read_full(fd, space);
-    libc::close(fd);
-    size
+    Ok(done)
+}
+
+// How many bytes the file `catalogue` put at the front of `space`: 0 where it can't be opened.
+fn read_catalogue(rt: &impl Files, space: &mut [u8]) -> io::Result<usize>
+    ensures { ReadsAtMost result space.new }
+{
+    match File::open(rt, "catalogue") {
+        Ok(mut file) => read_full(&mut file, space),
+        Err(_) => Ok(0),
+    }
 }
 
 // One byte more than is judged, so that a longer input shows.
-fn main() {
+fn main(rt: HostRuntime) -> io::Result<()> {
     let mut tables = [0u8; 65537];
     let mut space = [0u8; 65537];
-    let length = read_catalogue(&mut tables);
-    let size = io::read_full(STDIN_FILENO, &mut space);
-    say_reply(checked(&space[..size], &tables[..length]));
+    let length = read_catalogue(&rt, &mut tables)?;
+    let size = read_full(&mut rt.stdin(), &mut space)?;
+    say_reply(&rt, checked(&space[..size], &tables[..length]))
 }

@@ -5,56 +5,67 @@
 use replay_record::{Of, Replayed, Tally};
 use replay_walk::replayed;
 use replay_walk::said::{read, say, say_damage, say_number};
+use std::io;
+use std::rt::Files;
 
-fn say_binds(t: Tally) {
-    say_number(t.answered);
-    say(b" bound, ");
+fn say_binds(rt: &impl Print, t: Tally) -> io::Result<()> {
+    say_number(rt, t.answered)?;
+    say(rt, " bound, ")
 }
 
-fn say_runs(t: Tally) {
-    say_number(t.answered);
-    say(b" rows, ");
-    say_number(t.faults);
-    say(b" faults, ");
-    say_number(t.others);
-    say(b" refused otherwise, ");
+fn say_runs(rt: &impl Print, t: Tally) -> io::Result<()> {
+    say_number(rt, t.answered)?;
+    say(rt, " rows, ")?;
+    say_number(rt, t.faults)?;
+    say(rt, " faults, ")?;
+    say_number(rt, t.others)?;
+    say(rt, " refused otherwise, ")
 }
 
-fn say_counts(of: Of, t: Tally) {
-    say_number(t.cases);
-    say(b" replayed: ");
+fn say_counts(rt: &impl Print, of: Of, t: Tally) -> io::Result<()> {
+    say_number(rt, t.cases)?;
+    say(rt, " replayed: ")?;
     match of {
-        Of::Binds => say_binds(t),
-        Of::Runs => say_runs(t),
+        Of::Binds => say_binds(rt, t)?,
+        Of::Runs => say_runs(rt, t)?,
     }
-    say_number(t.differences);
-    say(b" differences\n");
+    say_number(rt, t.differences)?;
+    say(rt, " differences\n")
 }
 
-fn say_all(name: &[u8], of: Of, r: Replayed) {
-    say(name);
-    say(b": ");
+fn say_all(rt: &impl Print, name: &str, of: Of, r: Replayed) -> io::Result<()> {
+    say(rt, name)?;
+    say(rt, ": ")?;
     let t = r.tally;
     if !r.is_whole {
-        say_damage(t.cases);
-        return;
+        return say_damage(rt, t.cases);
     }
-    say_counts(of, t);
+    say_counts(rt, of, t)
 }
 
 // The record's name is its file's.
-fn replay_in(name: &[u8], of: Of, space: &mut [u8]) {
-    let n = read(name, space);
-    say_all(name, of, replayed(&space[..n], of));
+fn replay_in(
+    rt: &(impl Files + Print + Eprint),
+    name: &str,
+    of: Of,
+    space: &mut [u8],
+) -> io::Result<()> {
+    let n = read(rt, name, space)?;
+    say_all(rt, name, of, replayed(&space[..n], of))
 }
 
 // An array's length is its type's: lent as a slice by `main`, it would be counted byte by byte in the proof.
-fn replay(name: &[u8], of: Of, space: &mut [u8; 1048576]) {
-    replay_in(name, of, space);
+fn replay(
+    rt: &(impl Files + Print + Eprint),
+    name: &str,
+    of: Of,
+    space: &mut [u8; 1048576],
+) -> io::Result<()> {
+    replay_in(rt, name, of, space)
 }
 
-fn main() {
+fn main(rt: HostRuntime) -> io::Result<()> {
     let mut space = [0u8; 1048576];
-    replay(b"binds", Of::Binds, &mut space);
-    replay(b"runs", Of::Runs, &mut space);
+    replay(&rt, "binds", Of::Binds, &mut space)?;
+    replay(&rt, "runs", Of::Runs, &mut space)
 }

@@ -1,18 +1,20 @@
 // Runs one UPDATE on one row: the files `catalogue` and `row`, and a statement image on standard input. One line out: `row N`, and the new
-// row's image of N bytes is in the file `new_row`; or `refused R`, and no file is touched; or `not written`.
+// row's image of N bytes is in the file `new-row`; or `refused R`, and no file is touched; or `not written`.
 #![tactic(auto)]
 
 ghost use Rattle.std.specs.Prelude.{◌≡◌, length};
-ghost use Rattle.io.specs.Counts.{IsPrefixLen};
+ghost use Rattle.std.specs.Io.{ReadsAtMost};
 ghost use Rattle.rules.specs.Heard.{refuses, answers};
 ghost use Rattle.op_reply.specs.Leaves.{Leaves};
 ghost use Rattle.runrow.specs.Ran.{most, ran_bytes};
 
-use libc::{STDIN_FILENO, STDOUT_FILENO};
 use op_reply::{Reply, refused};
 use op_run::run;
+use std::fs::{self, File, OpenFile};
+use std::io::{self, ErrorKind, Read, Write};
+use std::rt::Files;
 
-// The longest input that is judged, and the room for the answer (`io::large_buffer`).
+// The longest input that is judged, and the room for the answer.
 const MOST: usize = 65536;
 
 // What `run` answers; 7 for a longer input, whatever it holds.
@@ -32,84 +34,106 @@ fn ran<'a>(statement: &'a [u8], catalogue: &'a [u8], row: &'a [u8], out: &mut [u
     run(statement, catalogue, row, out)
 }
 
-fn say(words: &[u8], number: u64) {
-    io::write_all(STDOUT_FILENO, words);
-    io::print_decimal(STDOUT_FILENO, number);
-    io::write_all(STDOUT_FILENO, b"\n");
+fn say(rt: &impl Print, words: &str, number: u64) -> io::Result<()> {
+    println!(rt; "{words}{number}")
 }
 
-fn put(fd: i32, new: &[u8]) -> bool {
-    let whole = io::write_all(fd, new);
-    if libc::close(fd) < 0 {
-        return false;
+// Writes all of `new`. Nobody hears of a failure when the file is closed, so it is synced first; `InvalidInput` is the answer of what keeps
+// nothing to sync, as a pipe.
+fn put<F: Write + OpenFile + Drop>(mut file: F, new: &[u8]) -> io::Result<()> {
+    file.write_all(new)?;
+    match file.sync_all() {
+        Err(error) if error.kind() == ErrorKind::InvalidInput => Ok(()),
+        synced => synced,
     }
-    whole
 }
 
-// Whether all of `new` is in the file `new_row`. A file with a part of it is taken away.
-fn write_new_row(new: &[u8]) -> bool {
-    let fd = os::open_overwrite(b"new-row");
-    if fd < 0 {
-        os::fail(b"new-row");
-        return false;
+// Puts all of `new` in the file `new-row`. A file with a part of it is taken away.
+fn write_new_row(rt: &impl Files, new: &[u8]) -> io::Result<()> {
+    let written = put(File::create(rt, "new-row")?, new);
+    if written.is_err() {
+        let _ = fs::remove_file(rt, "new-row");
     }
-    if put(fd, new) {
-        return true;
-    }
-    os::fail(b"new-row");
-    os::unlink(b"new-row");
-    false
+    written
 }
 
 // The inputs stand here for the contract: no other row is kept than the one that they come to.
-fn keep<'a>(statement: &'a [u8], catalogue: &'a [u8], row: &'a [u8], new: &[u8])
+fn keep<'a>(
+    rt: &(impl Files + Print + Eprint),
+    statement: &'a [u8],
+    catalogue: &'a [u8],
+    row: &'a [u8],
+    new: &[u8],
+) -> io::Result<()>
     requires { ran_bytes statement.now catalogue.now row.now ≡ answers new.now }
 {
-    if !write_new_row(new) {
-        io::write_all(STDOUT_FILENO, b"not written\n");
-        return;
+    if let Err(error) = write_new_row(rt, new) {
+        eprintln!(rt; "new-row: {error}")?;
+        return println!(rt; "not written");
     }
-    say(b"row ", new.len() as u64);
+    say(rt, "row ", new.len() as u64)
 }
 
 // Likewise, no other refusal is said.
-fn refuse<'a>(statement: &'a [u8], catalogue: &'a [u8], row: &'a [u8], number: u8)
+fn refuse<'a>(
+    rt: &impl Print,
+    statement: &'a [u8],
+    catalogue: &'a [u8],
+    row: &'a [u8],
+    number: u8,
+) -> io::Result<()>
     requires { ran_bytes statement.now catalogue.now row.now ≡ refuses number }
 {
-    say(b"refused ", number as u64);
+    say(rt, "refused ", number as u64)
 }
 
-fn run_row<'a>(statement: &'a [u8], catalogue: &'a [u8], row: &'a [u8]) {
-    let mut out = io::large_buffer();
+fn run_row<'a>(
+    rt: &(impl Files + Print + Eprint),
+    statement: &'a [u8],
+    catalogue: &'a [u8],
+    row: &'a [u8],
+) -> io::Result<()> {
+    let mut out = [0u8; 65536];
     let heard = ran(statement, catalogue, row, &mut out);
     if heard.refusal != 0 {
-        refuse(statement, catalogue, row, heard.refusal);
-        return;
+        return refuse(rt, statement, catalogue, row, heard.refusal);
     }
     let length = heard.length;
-    keep(statement, catalogue, row, &out[..length]);
+    keep(rt, statement, catalogue, row, &out[..length])
 }
 
-// How many bytes the file put at the front of `space`: 0 where it can't be read.
-fn read_image(name: &[u8], space: &mut [u8]) -> usize
-    ensures { IsPrefixLen result space.new }
+// Reads until `space` is full or the input ends, and returns how many bytes it put at the front of `space`.
+fn read_full(input: &mut impl Read, space: &mut [u8]) -> io::Result<usize>
+    ensures { ReadsAtMost result space.new }
 {
-    let fd = os::open_read(name);
-    if fd < 0 {
-        return 0;
+    let mut done = 0;
+    while done < space.len() {
+        let n = input.read(&mut space[done..])?;
+        if n == 0 {
+            break;
+        }
+        done += n;
     }
-    let size = io::read_full(fd, space);
-    libc::close(fd);
-    size
+    Ok(done)
+}
+
+// How many bytes the file put at the front of `space`: 0 where it can't be opened.
+fn read_image(rt: &impl Files, name: &str, space: &mut [u8]) -> io::Result<usize>
+    ensures { ReadsAtMost result space.new }
+{
+    match File::open(rt, name) {
+        Ok(mut file) => read_full(&mut file, space),
+        Err(_) => Ok(0),
+    }
 }
 
 // One byte more than is judged, so that a longer input shows.
-fn main() {
+fn main(rt: HostRuntime) -> io::Result<()> {
     let mut tables = [0u8; 65537];
     let mut old = [0u8; 65537];
     let mut space = [0u8; 65537];
-    let length = read_image(b"catalogue", &mut tables);
-    let width = read_image(b"row", &mut old);
-    let size = io::read_full(STDIN_FILENO, &mut space);
-    run_row(&space[..size], &tables[..length], &old[..width]);
+    let length = read_image(&rt, "catalogue", &mut tables)?;
+    let width = read_image(&rt, "row", &mut old)?;
+    let size = read_full(&mut rt.stdin(), &mut space)?;
+    run_row(&rt, &space[..size], &tables[..length], &old[..width])
 }
