@@ -5,7 +5,7 @@ use Rattle.std.proofs.Common.{sym, ap, ◌∙◌, true≢false, arith, eqb-true}
 use Rattle.std.proofs.Math.Option.{Option, some}
 use Rattle.rules.specs.declared.Class.TheVariants.{SchemaMismatch, ConstraintViolation, UnsupportedSql, InvalidArgument}
 use Rattle.rules.specs.Lists.{Text, same, is_empty, any}
-use Rattle.rules.specs.Answers.{Answer, given, found, each, ◌>>=◌, ◌>>◌}
+use Rattle.rules.specs.Answers.{Answer, given, found, each}
 use Rattle.rules.specs.Tables.{TableSchema, Catalogue}
 use Rattle.rules.specs.Bound.{Value, BoundColumnRef, BoundInsert, BoundStatement, bound_insert}
 use Rattle.rules.specs.Lookup.{bound_table, column_by_name}

@@ -1,6 +1,6 @@
 -- Room for each part of a bound INSERT, and the parts put together.
 -- Assumes nothing.
-use Rattle.std.specs.Prelude.{◌≡◌, refl, Bool, List, [], ◌∷◌, ◌++◌, ℕ, ◌+◌, ◌-◌, ◌≤◌, length, take, drop}
+use Rattle.std.specs.Prelude.{◌≡◌, refl, Bool, List, [], ◌∷◌, ◌++◌, ℕ, ◌-◌, ◌≤◌, length, take, drop}
 use Rattle.std.proofs.Common.{sym, ap, ◌∙◌, arith}
 use Rattle.std.proofs.Math.Option.{some}
 use Rattle.bytes_wire.specs.Sets.{Wrote, then}
@@ -9,7 +9,7 @@ use Rattle.bytes_bundle.specs.Held.{Holds, Shows, is_held, held_once}
 use Rattle.image_value.specs.Parts.{value}
 use Rattle.image_expression.specs.Expression.{expression}
 use Rattle.image_catalogue.specs.Layout.{table}
-use Rattle.image_parts.specs.Layout.{name, source_body, source, insertion}
+use Rattle.image_parts.specs.Layout.{name, source_body, insertion}
 use Rattle.image_insert.specs.Held.{is_values}
 use Rattle.rules.specs.declared.Refusal.{Refusal}
 use Rattle.rules.specs.Answers.{given, refused, each}

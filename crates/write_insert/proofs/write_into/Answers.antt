@@ -3,7 +3,6 @@ use Rattle.bytes_bundle.specs.Held.{is_held}
 use Rattle.image_parts.specs.Layout.{insertion}
 use Rattle.bind_insert.specs.Within.{within_targets}
 use Rattle.write_insert.specs.Written.{room_rows, room_code, room_table, behind_table, room_targets, behind_targets, room_values, behind_rows, room_head, written}
-use borrow.Author.Rules.{rules}
 use Rattle.write_insert.proofs.write_into.Goals as goal
 
 pub columns-names-requires : goal.columns-names-requires

@@ -1,0 +1,4 @@
+use Rattle.replay_record.proofs.counted.Goals as goal
+
+pub returns : goal.returns
+returns c = cc

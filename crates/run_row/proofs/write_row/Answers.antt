@@ -1,0 +1,39 @@
+-- `run_row::write_row` meets its contract.
+use mathlib.Core.Path.{sym, ap, ◌∙◌}
+use native.Mathlib.Omega.{arith}
+use Rattle.image_bound.specs.Written.{spelt}
+use Rattle.bind_where.specs.Short.{known}
+use Rattle.image_row.specs.Layout.{row}
+use Rattle.run_row.specs.Updates.{kept_room, planned_room, given_kept, given_assigned, plan_drawn, row_drawn, row_kept}
+use borrow.Author.Rules.{rules}
+use borrow.Author.Tests.{not-true, not-false}
+use Rattle.run_row.proofs.write_row.Goals as goal
+
+pub put_all-requires : goal.put_all-requires
+put_all-requires c =
+    omega (
+      arith,
+      kept_room c.requires c.work_out.ensures
+          (known c.type_inv.r) (sym c.is_true.ensures ∙ c.if-not-is_true.true),
+    )
+
+pub returns-then-not-is_true : goal.returns-then-not-is_true
+returns-then-not-is_true c = λ v xs y x z hv hs hy hx g.
+    let h = sym c.is_true.ensures ∙ c.if-not-is_true.true in
+    spelt (row_kept (known c.type_inv.r) hx
+    ∙ ap row.write (given_kept v y xs x (c.work_out.ensures v hv x hx y hy) g h)) c.put_all.ensures
+
+pub put_values-requires : goal.put_values-requires
+put_values-requires c =
+    let k = c.requires in (
+      (k.runnable.runs, k.runnable.names),
+      planned_room k c.work_out.ensures
+          (sym c.is_true.ensures ∙ c.if-not-is_true.false) _ c.plan.result c.plan.ensures,
+    )
+
+pub returns : goal.returns
+returns c = λ v xs y x z hv hs hy hx g.
+    let h = sym c.is_true.ensures ∙ c.if-not-is_true.false in
+    c.put_values.ensures z (row_drawn hv hx hs
+    (plan_drawn _ c.plan.result (c.plan.ensures v x xs hv hx hs)
+    (given_assigned v y xs x (c.work_out.ensures v hv x hx y hy) g h)))
