@@ -508,8 +508,6 @@ def turn(crate):
             return
         with open(names, encoding="utf-8") as f:
             told = json.load(f)
-    if "--keep-names" in sys.argv:
-        json.dump(told, open(f"/tmp/names-{crate}.json", "w"))
     done = 0
     for folder, _, found in sorted(os.walk(f"crates/{crate}/proofs")):
         if "Proof.antt" not in found:

@@ -7,13 +7,15 @@ usage: python3 tools/port/edits.py LANDED    at the top; LANDED is a checkout of
 import glob
 import os
 import re
+import subprocess
 import sys
 
 HERE = os.path.dirname(os.path.realpath(__file__))
 sys.path.insert(0, HERE)
 import respell
 
-NOTES = "/opt/rattle/port/notes"
+# the scripts of the kit stand beside its first page
+NOTES = os.path.join(os.path.dirname(subprocess.run(["rt", "doc"], capture_output=True, text=True).stdout.strip()), "port", "notes")
 NAME = respell.NAME
 
 
@@ -31,11 +33,6 @@ def library():
         for old, new in rows(os.path.join(NOTES, name)):
             found.setdefault(old, new)
     return found
-
-
-def own_turned():
-    """The names of the repository's own that port.py spelled anew."""
-    return {}
 
 
 OWN = {old: new for old, (new, _) in respell.table().items()}
@@ -111,8 +108,7 @@ def main(argv):
         else:
             left.append(path)
             print("left:", path)
-            if "--show" in os.environ.get("EDITS", ""):
-                print(text)
+            print(text)
     print(len(left), "left")
 
 

@@ -3,7 +3,6 @@
 use Prim.Native.Nat.{◌+◌, ◌*◌}
 use Rattle.bind_expression.proofs.+mark_mark_binary_mark_null_test_mark_unary.Given as goal
 
-
 abbrev pub decreases-mark : goal.decreases-mark
 decreases-mark l = 2 * l.i + 1
 

@@ -1,11 +1,10 @@
 -- `run_row::put_values` meets its contract. The invariant: the values before position p are written, and so are their lengths.
-use Prim.Native.Nat.{◌-◌, ◌≤◌}
 use native.Mathlib.Omega.{arith}
 use borrow.Author.Rules.{rules}
 use Rattle.image_bound.specs.Beside.{wrote_long}
 use Rattle.run_plan.specs.Runs.{runs_row}
 use Rattle.image_row.specs.Obeyed.{row_bundle}
-use Rattle.run_row.specs.Turns.{count_few, list_room, Writing, writing_none, turn_room, length_room, writing_on, writing_end, writing_long}
+use Rattle.run_row.specs.Turns.{count_few, list_room, writing_none, turn_room, length_room, writing_on, writing_end, writing_long}
 use Rattle.run_row.proofs.put_values.Goals as goal
 
 pub parts-n-requires : goal.parts-n-requires

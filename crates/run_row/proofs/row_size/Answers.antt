@@ -3,8 +3,6 @@ use mathlib.Core.Path.{sym, ap, ◌∙◌}
 use lib.ListN.{length}
 use Rattle.bind_where.specs.Short.{known}
 use Rattle.run_row.specs.Updates.{ran_fault, ran_kept, ran_unplanned, ran_planned, plan_draws, row_drawn, row_kept}
-use borrow.Author.Rules.{rules}
-use borrow.Author.Tests.{not-true, not-false}
 use Rattle.run_row.proofs.row_size.Goals as goal
 
 pub returns-then-is_fault : goal.returns-then-is_fault

@@ -1,10 +1,6 @@
 -- `run_row::values_len` meets its contract. The invariant: how long the values before position p are.
 use Prim.Native.Nat.{◌+◌, ◌-◌, ◌*◌, ◌≤◌}
-use native.Mathlib.Omega.{arith}
-use borrow.Author.Rules.{rules}
-use Rattle.run_plan.specs.Runs.{runs_row}
-use Rattle.image_row.specs.Obeyed.{row_bundle}
-use Rattle.run_row.specs.Turns.{count_few, turn_draws, Measuring, measuring_none, measuring_on, measuring_end}
+use Rattle.run_row.specs.Turns.{Measuring}
 use Rattle.run_row.proofs.values_len.Given as goal
 
 abbrev pub invariant-loop-p : goal.invariant-loop-p

@@ -5,8 +5,6 @@ use Rattle.image_bound.specs.Written.{spelt}
 use Rattle.bind_where.specs.Short.{known}
 use Rattle.image_row.specs.Layout.{row}
 use Rattle.run_row.specs.Updates.{kept_room, planned_room, given_kept, given_assigned, plan_drawn, row_drawn, row_kept}
-use borrow.Author.Rules.{rules}
-use borrow.Author.Tests.{not-true, not-false}
 use Rattle.run_row.proofs.write_row.Goals as goal
 
 pub put_all-requires : goal.put_all-requires

@@ -40,8 +40,8 @@ loop-i-preserved c =
     let h = c.loop-i-test.true in
     let d = digit s i h c.if-b-lt48.false c.if-b-gt57.false ∙ c.loop-i.invariant.2 in
     elim c.if-v-gt922337203685477580.branch [
-      then-v-gt922337203685477580 w ↦ (search rules, omega (arith, w.v-is), d, rw w.v-is (stay s i h a.minus c.loop-i.v 9223372036854775809 w.if-v-gt922337203685477580.true (omega arith)) ∙ c.loop-i.invariant.3)
-    | else-v-gt922337203685477580 w ↦ (search rules, omega (arith, w.v-is), d, rw w.v-is (count s i h a.minus c.loop-i.v) ∙ c.loop-i.invariant.3)
+      | then-v-gt922337203685477580 w ↦ (search rules, omega (arith, w.v-is), d, rw w.v-is (stay s i h a.minus c.loop-i.v 9223372036854775809 w.if-v-gt922337203685477580.true (omega arith)) ∙ c.loop-i.invariant.3)
+      | else-v-gt922337203685477580 w ↦ (search rules, omega (arith, w.v-is), d, rw w.v-is (count s i h a.minus c.loop-i.v) ∙ c.loop-i.invariant.3)
     ]
 
 made-done : (c : After-made) → retold c.made.result
