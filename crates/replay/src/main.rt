@@ -10,32 +10,32 @@ use std::rt::Files;
 
 fn say_binds(rt: &impl Print, t: Tally) -> io::Result<()> {
     say_number(rt, t.answered)?;
-    say(rt, " bound, ")
+    say(rt, b" bound, ")
 }
 
 fn say_runs(rt: &impl Print, t: Tally) -> io::Result<()> {
     say_number(rt, t.answered)?;
-    say(rt, " rows, ")?;
+    say(rt, b" rows, ")?;
     say_number(rt, t.faults)?;
-    say(rt, " faults, ")?;
+    say(rt, b" faults, ")?;
     say_number(rt, t.others)?;
-    say(rt, " refused otherwise, ")
+    say(rt, b" refused otherwise, ")
 }
 
 fn say_counts(rt: &impl Print, of: Of, t: Tally) -> io::Result<()> {
     say_number(rt, t.cases)?;
-    say(rt, " replayed: ")?;
+    say(rt, b" replayed: ")?;
     match of {
         Of::Binds => say_binds(rt, t)?,
         Of::Runs => say_runs(rt, t)?,
     }
     say_number(rt, t.differences)?;
-    say(rt, " differences\n")
+    say(rt, b" differences\n")
 }
 
 fn say_all(rt: &impl Print, name: &str, of: Of, r: Replayed) -> io::Result<()> {
-    say(rt, name)?;
-    say(rt, ": ")?;
+    say(rt, name.as_bytes())?;
+    say(rt, b": ")?;
     let t = r.tally;
     if !r.is_whole {
         return say_damage(rt, t.cases);

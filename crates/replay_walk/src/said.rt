@@ -34,8 +34,8 @@ pub fn read(rt: &(impl Files + Eprint), path: &str, to: &mut [u8]) -> io::Result
     }
 }
 
-pub fn say(rt: &impl Print, words: &str) -> io::Result<()> {
-    print!(rt; "{words}")
+pub fn say(rt: &impl Print, words: &[u8]) -> io::Result<()> {
+    rt.write_all(words)
 }
 
 pub fn say_number(rt: &impl Print, n: u64) -> io::Result<()> {

@@ -8,7 +8,6 @@ use Rattle.bind_statement.specs.Within.{statement_within_lem}
 use Rattle.op_reply.specs.Leaves.{reply, leaves_as_it_was}
 use Rattle.op_received.specs.Received.{Received, both_received}
 use Rattle.op_run.specs.Runs.{run_refused_before, run_refused_by_rule}
-use borrow.Author.Rules.{rules}
 use Rattle.op_run.proofs.run.Goals.{Else-number-ne0}
 use Rattle.op_run.proofs.run.Goals as goal
 

@@ -6,7 +6,6 @@ use Rattle.op_reply.specs.Leaves.{leaves_as_it_was, leaves_same}
 use Rattle.op_run.specs.Asked.{Asked, runnable_is}
 use Rattle.op_run.specs.Runs.{run_no_update, run_update}
 use Rattle.op_run.specs.Stands.{stands}
-use borrow.Author.Rules.{rules}
 use Rattle.op_run.proofs.run_bound.Goals.{Else-not-runnable}
 use Rattle.std.proofs.Common.{ap}
 use Rattle.std.proofs.Common.{not}

@@ -10,7 +10,6 @@ use Rattle.rules.specs.Analyze.{resolve_direct_table}
 use Rattle.rules.specs.Heard.{Running}
 use Rattle.rules.proofs.Theorems.Answered.{never_given}
 use Rattle.op_run.specs.Stands.{Stands, stands_over}
-use borrow.Author.Rules.{rules}
 use Rattle.op_run.proofs.run_update.Goals.{In-At}
 use Rattle.op_run.proofs.run_update.Goals as goal
 

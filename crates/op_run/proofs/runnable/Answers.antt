@@ -4,7 +4,6 @@ use Prim.Native.Nat.{ℕ}
 use lib.Dec.{eqb}
 use Rattle.rules.specs.Trimmed.{is_show_transactions}
 use Rattle.op_run.specs.Asked.{shown_not_asked, kind_asked}
-use borrow.Author.Rules.{rules}
 use Rattle.op_run.proofs.runnable.Goals as goal
 
 pub returns-then-is_show_transactions : goal.returns-then-is_show_transactions
