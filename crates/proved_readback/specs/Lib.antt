@@ -3,9 +3,4 @@ pub mod Rows
 pub mod Judging
 pub mod Run
 pub mod Lengths
-pub mod Bindings
-pub mod Kinds
-pub mod Changes
 pub mod Folding
-pub mod Created
-pub mod Bind

@@ -9,7 +9,7 @@ use Rattle.std.proofs.Math.Seq.{take-append_seam}
 use Rattle.rules.specs.Heard.{Outcome, refuses, answers}
 use Rattle.op_reply.specs.declared.Reply.{Reply}
 use Rattle.op_received.specs.Entry.{run_bytes}
-use Rattle.op_reply.specs.Leaves.{refusal, Leaves, reply, leaves_as_it_was}
+use Rattle.op_reply.specs.Leaves.{Leaves, reply, leaves_as_it_was}
 use Rattle.runrow.specs.Zero.{Numbered, test_numbered, run_numbered}
 
 abbrev pub most : ℕ

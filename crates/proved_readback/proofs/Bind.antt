@@ -23,10 +23,10 @@ use Rattle.rules.proofs.Theorems.Stages.{next_answers}
 use Rattle.op_received.specs.Entry.{read_statement, read_catalogue, bound_size, bind_bytes}
 use Rattle.proved_readback.specs.Judging.{Judged, judged_of, answers_same, fitted_answers, kind_ok}
 use Rattle.proved_readback.specs.Lengths.{limit}
-use Rattle.proved_readback.specs.Bindings.{given_same}
-use Rattle.proved_readback.specs.Kinds.{BoundSane, has_image}
-use Rattle.proved_readback.specs.Changes.{update_sane, delete_sane, select_sane, insert_sane}
-use Rattle.proved_readback.specs.Created.{create_sane}
+use Rattle.proved_readback.proofs.Bindings.{given_same}
+use Rattle.proved_readback.proofs.StatementKinds.{BoundSane, has_image}
+use Rattle.proved_readback.proofs.Changes.{update_sane, delete_sane, select_sane, insert_sane}
+use Rattle.proved_readback.proofs.Created.{create_sane}
 
 -- ---- every statement that is bound
 

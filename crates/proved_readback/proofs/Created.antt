@@ -18,10 +18,10 @@ use Rattle.rules.specs.Names.{canonical, simple_name}
 use Rattle.rules.specs.Analyze.{Definition, no_options, options, said_null, register_inline, data_type, column_of, define_column, define_columns, constraints, key_ids, outside_null, analyze_create_table}
 use Rattle.rules.proofs.Theorems.Answered.{never_given}
 use Rattle.rules.proofs.Theorems.Steps.{step, step_found, step_past}
-use Rattle.proved_readback.specs.Bindings.{given_same, find_every, ColumnFine}
+use Rattle.proved_readback.proofs.Bindings.{given_same, find_every, ColumnFine}
 use Rattle.proved_readback.specs.Folding.{canonical_utf8}
-use Rattle.proved_readback.specs.Kinds.{IdFine, BoundSane}
-use Rattle.proved_readback.specs.Changes.{every_append}
+use Rattle.proved_readback.proofs.StatementKinds.{IdFine, BoundSane}
+use Rattle.proved_readback.proofs.Changes.{every_append}
 
 -- ---- the name
 

@@ -29,8 +29,9 @@ use Rattle.rules.specs.Bound.{
   bound_show_tables,
   bound_show_transactions,
 }
-use Rattle.proved_readback.specs.Lengths.{limit, Fits, ok_fits, list_fits, record2_fits, record3_fits, IfThere, optional_fits}
-use Rattle.proved_readback.specs.Bindings.{ColumnFine, Sane, expression_fits}
+use Rattle.proved_readback.specs.Lengths.{limit, Fits}
+use Rattle.proved_readback.proofs.Fitting.{ok_fits, list_fits, record2_fits, record3_fits, IfThere, optional_fits}
+use Rattle.proved_readback.proofs.Bindings.{ColumnFine, Sane, expression_fits}
 
 -- ---- what each kind holds: numbers that fit, and texts that are UTF-8
 

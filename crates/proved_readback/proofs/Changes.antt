@@ -26,7 +26,7 @@ use Rattle.write_insert_rows.specs.Listing.{literals}
 use Rattle.write_insert.specs.Parts.{analyzed, into_parts}
 use Rattle.rules.specs.declared.Class.TheVariants.{SchemaMismatch, UnsupportedSql}
 use Rattle.rules.specs.Lists.{Text}
-use Rattle.rules.specs.Answers.{Answer, given, found, each}
+use Rattle.rules.specs.Answers.{Answer, given, each}
 use Rattle.rules.specs.Tables.{TableSchema, Catalogue, table_by_name}
 use Rattle.rules.specs.Statements.{Leaf, Expr, values, Source, Insert, Item, star, column, other_item, Select, QueryBody, plain_select, not_plain, Query, Assignment, Update, Delete}
 use Rattle.rules.specs.Bound.{Value, BoundColumnRef, BoundExpr, BoundAssignment, BoundStatement}
@@ -39,9 +39,9 @@ use Rattle.rules.specs.Analyze.{integer, insert_leaf, insert_signed, insert_lite
 use Rattle.rules.proofs.Theorems.Answered.{never_given}
 use Rattle.rules.proofs.Theorems.Steps.{step, step_found, step_past}
 use Rattle.proved_readback.specs.Values.{node_labels, short}
-use Rattle.proved_readback.specs.Lengths.{IfThere}
-use Rattle.proved_readback.specs.Bindings.{given_same, found_some, TableFine, found_fine, resolved_fine, table_ref_ok, named_ok, columns_ok, integer_ok, text_ok, bool_ok, null_ok, Sane, bound_sane}
-use Rattle.proved_readback.specs.Kinds.{AssignmentSane, BoundSane}
+use Rattle.proved_readback.proofs.Fitting.{IfThere}
+use Rattle.proved_readback.proofs.Bindings.{given_same, found_some, TableFine, found_fine, resolved_fine, table_ref_ok, named_ok, columns_ok, integer_ok, text_ok, bool_ok, null_ok, Sane, bound_sane}
+use Rattle.proved_readback.proofs.StatementKinds.{AssignmentSane, BoundSane}
 
 -- ---- conditions
 
