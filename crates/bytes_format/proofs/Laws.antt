@@ -1,4 +1,4 @@
--- The laws of the formats of `Layout.antt`.
+-- The laws of the formats of `Formats.antt`.
 -- Assumes nothing.
 use Rattle.std.specs.Prelude.{◌≡◌, refl, Bool, true, false, cond, ◌⊎◌, List, [], ◌∷◌, ◌++◌, map, ℕ, zero, suc, ◌+◌, ◌-◌, ◌*◌, ◌^◌, ◌≤◌, ◌<◌, length, take, drop, leb, ltb, eqb, ℤ}
 use Rattle.std.proofs.Common.{sym, ap, ap₂, ◌∙◌, subst, inl, inr, zero-mul, suc-mul, mod-lt, arith, length-append, take-append-drop, take_at, drop_at, length-take-le, lit<, le-leb, leb-true, eq-eqb, eqb-true, lt-ltb, le-ltb, ltb-false, to_z, of_z}

@@ -1,8 +1,8 @@
 -- Codes: one byte that says which case of a type follows. A data type gets its format so:
 --     cases : List (Case T)                     a case for each constructor, in the order of the codes: case text Name ∷ case nothing (λ u. Other) ∷ []
 --     which : T → Some cases                    which case a value is: which (Name s) = nth cases 0 s
---     made-which : (t : T) → made cases (which t) ≡ t        a `refl` for each constructor
---     choice (sum cases which made-which refl) refl : Format T
+--     made_which : (t : T) → made cases (which t) ≡ t        a `refl` for each constructor
+--     choice (sum cases which made_which refl) refl : Format T
 -- Assumes nothing.
 use Rattle.std.specs.Prelude.{◌≡◌, true, ◌⊎◌, List, [], ◌∷◌, ◌++◌, ◌+◌, length, leb}
 use Rattle.std.proofs.Math.Option.{some}

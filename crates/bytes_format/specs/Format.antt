@@ -1,6 +1,6 @@
 -- Images. A `Format A` writes a value as bytes and reads a value that FILLS its bytes: nothing is left over. What it writes it reads back (`there`),
 -- and what it reads is what it would write (`back`). So a layout made of formats has one image for each value and one value for each image.
--- `Layout.antt` has the formats by name.
+-- `Formats.antt` has the formats by name.
 -- Assumes nothing.
 use Rattle.std.specs.Prelude.{◌≡◌, refl, true, List, [], ◌∷◌, map, ℕ, zero, suc, ◌<◌, length, leb}
 use Rattle.std.proofs.Common.{sym, ◌∙◌, ap}

@@ -1,4 +1,4 @@
--- How each format of `Layout.antt` writes and reads, where that takes more than a line.
+-- How each format of `Formats.antt` writes and reads, where that takes more than a line.
 -- Assumes nothing: these are definitions.
 use Rattle.std.specs.Prelude.{Bool, true, false, cond, ◌⊎◌, List, [], ◌∷◌, ◌++◌, map, ℕ, zero, suc, ◌+◌, ◌-◌, ◌^◌, ◌<◌, length, take, drop, leb, ltb, eqb}
 use Rattle.std.proofs.Math.Option.{Option, none, some}

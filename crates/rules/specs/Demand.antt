@@ -1,4 +1,4 @@
--- Demand 3, in its own words, over plain values. `Theorems/Demand.antt` proves it.
+-- Demand 3, in its own words, over plain values. `proofs/Theorems/Demand.antt` proves it.
 -- "Take an UPDATE (by 01's dispatch) of one known table, with a WHERE, at least one assignment, no unsupported clause, within the limits,
 -- clear of number 8 and with room for each answer. It binds exactly if some marking of its expressions with types and may-be-null meets 01's
 -- rule at every node, the WHERE is BOOL, and the targets are plain distinct columns outside the key, each given a fitting value, none that
