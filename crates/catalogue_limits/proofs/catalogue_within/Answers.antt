@@ -7,6 +7,7 @@ use Rattle.image_catalogue.specs.Values.{catalogue_tables, catalogue_list}
 use Rattle.rules.specs.Limits.{at_most, table_within, catalogue_within}
 use Rattle.rules.specs.Lists.{all}
 use Rattle.rules.specs.Tables.{Catalogue}
+use native.Mathlib.Omega.{arith}
 use borrow.Author.Rules.{rules}
 use borrow.Author.Tests.{le-leb, lt-leb}
 use lib.ListN.{length}
@@ -37,4 +38,4 @@ are_tables_within-requires c = catalogue_list c.requires
 
 pub returns : goal.returns
 returns c = λ v h.
-    last (on (left-1 (goal.at.returns c).Else-s-gt65536 v) (many (goal.at.returns c).After-parts v h ∙ le-leb _ _ c.if-parts-gt256.false)) (c.are_tables_within.ensures v (catalogue_tables c.args.s.now h))
+    last (on (left-1 (goal.at.returns c).Else-s-gt65536 v) (many (goal.at.returns c).After-parts v h ∙ le-leb c.parts.result 256 (omega arith))) (c.are_tables_within.ensures v (catalogue_tables c.args.s.now h))

@@ -9,6 +9,7 @@ use Rattle.rules.specs.Limits.{at_most, name_within, table_within}
 use Rattle.rules.specs.Lists.{all}
 use Rattle.rules.specs.Tables.{TableSchema}
 use Rattle.image_value.specs.Parts.{column_id, column_schema}
+use native.Mathlib.Omega.{arith}
 use borrow.Author.Rules.{rules}
 use borrow.Author.Tests.{le-leb, lt-leb}
 use lib.ListN.{length, drop}
@@ -19,7 +20,6 @@ use Rattle.catalogue_limits.proofs.is_table_within.Goals.{After-table_name-name}
 use Rattle.catalogue_limits.proofs.is_table_within.Goals.{After-parts}
 use Rattle.catalogue_limits.proofs.is_table_within.Goals.{After-are_columns_within}
 use Rattle.catalogue_limits.proofs.is_table_within.Goals.{Else-name-gt128}
-use Rattle.catalogue_limits.proofs.is_table_within.Goals.{Else-parts-gt64}
 use Rattle.catalogue_limits.proofs.is_table_within.Goals.{Else-not-are_columns_within}
 use Rattle.std.proofs.Common.{not}
 use Rattle.catalogue_limits.proofs.is_table_within.Goals as goal
@@ -46,11 +46,11 @@ named c v h = c.are_columns_within.ensures v.columns (c.columns-list.ensures v h
 left-1 : (c : Else-name-gt128) (v : TableSchema) → Holds table c.args.t.now v → Left 1 v
 left-1 c v h = on (table_within_decided v) (name_is (goal.at.Else-name-gt128 c).After-table_name-name v h ∙ le-leb _ _ c.if-name-gt128.false)
 
-left-2 : (c : Else-parts-gt64) (v : TableSchema) → Holds table c.args.t.now v → Left 2 v
-left-2 c v h = on (left-1 (goal.at.Else-parts-gt64 c).Else-name-gt128 v h) (many (goal.at.Else-parts-gt64 c).After-parts v h ∙ le-leb _ _ c.if-parts-gt64.false)
+left-2 : (c : After-are_columns_within) (v : TableSchema) → Holds table c.args.t.now v → Left 2 v
+left-2 c v h = on (left-1 (goal.at.After-are_columns_within c).Else-name-gt128 v h) (many (goal.at.After-are_columns_within c).After-parts v h ∙ le-leb c.parts.result 64 (omega arith))
 
 left-3 : (c : Else-not-are_columns_within) (v : TableSchema) → Holds table c.args.t.now v → Left 3 v
-left-3 c v h = on (left-2 (goal.at.Else-not-are_columns_within c).Else-parts-gt64 v h) (passed (named (goal.at.Else-not-are_columns_within c).After-are_columns_within v h) (ap not c.if-not-are_columns_within.false))
+left-3 c v h = on (left-2 (goal.at.Else-not-are_columns_within c).After-are_columns_within v h) (passed (named (goal.at.Else-not-are_columns_within c).After-are_columns_within v h) (ap not c.if-not-are_columns_within.false))
 
 pub returns-then-name-gt128 : goal.returns-then-name-gt128
 returns-then-name-gt128 c = λ v h. stop (table_within_decided v) (name_is (goal.at.returns-then-name-gt128 c).After-table_name-name v h ∙ lt-leb _ _ c.if-name-gt128.true)
@@ -65,7 +65,7 @@ pub are_columns_within-requires : goal.are_columns_within-requires
 are_columns_within-requires c = list (goal.at.are_columns_within-requires c).After-columns-list
 
 pub returns-then-not-are_columns_within : goal.returns-then-not-are_columns_within
-returns-then-not-are_columns_within c = λ v h. stop (left-2 (goal.at.returns-then-not-are_columns_within c).Else-parts-gt64 v h) (failed (named (goal.at.returns-then-not-are_columns_within c).After-are_columns_within v h) (ap not c.if-not-are_columns_within.true))
+returns-then-not-are_columns_within c = λ v h. stop (left-2 (goal.at.returns-then-not-are_columns_within c).After-are_columns_within v h) (failed (named (goal.at.returns-then-not-are_columns_within c).After-are_columns_within v h) (ap not c.if-not-are_columns_within.true))
 
 pub parts-requires-2 : goal.parts-requires-2
 parts-requires-2 c = let r = list_bundle (alone column_id) (ids (goal.at.parts-requires-2 c).After-key) in search rules

@@ -1,6 +1,6 @@
 -- `runrow::ran` meets its contract: an input is too long, or `run` answers.
-use native.Mathlib.Omega.{arith}
-use Rattle.runrow.specs.Ran.{long_statement, long_catalogue, long_row, judged}
+use Rattle.std.proofs.Common.{arith}
+use Rattle.runrow.proofs.Cases.{long_statement, long_catalogue, long_row, judged}
 use Rattle.runrow.proofs.ran.Goals as goal
 
 pub returns-then-statement-gt-MOST : goal.returns-then-statement-gt-MOST
@@ -13,6 +13,4 @@ pub returns-then-row-gt-MOST : goal.returns-then-row-gt-MOST
 returns-then-row-gt-MOST c = long_row _ _ _ (omega arith) (omega arith) (omega arith) c.refused-then-row-gt-MOST.ensures
 
 pub returns : goal.returns
-returns c =
-    judged _ _ _ (omega arith) (omega arith) (omega arith) c.requires
-    c.run.ensures
+returns c = judged _ _ _ (omega arith) (omega arith) (omega arith) c.requires c.run.ensures

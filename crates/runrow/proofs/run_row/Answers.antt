@@ -1,5 +1,5 @@
 -- `runrow::run_row` meets its contract: what `ran` answers is what is kept.
-use Rattle.runrow.specs.Ran.{new_row}
+use Rattle.runrow.proofs.Cases.{new_row}
 use Rattle.runrow.proofs.run_row.Goals as goal
 
 pub keep-requires : goal.keep-requires
