@@ -2,25 +2,27 @@
 // what bound.rs enumerates. The rules themselves are in specs/, over plain values; there is no code here.
 #![tactic(auto)]
 
-#[derive(Clone, Copy)]
+ghost use Rattle.std.specs.Prelude.{◌≡◌};
+
+#[derive(Clone, Copy, Debug, PartialEq, Eq)]
 pub struct TableId(pub u64);
 
 // A column's stable identity. It never serves as a row position.
-#[derive(Clone, Copy)]
+#[derive(Clone, Copy, Debug, PartialEq, Eq)]
 pub struct ColumnId(pub u64);
 
 // A row position, counted from 0.
-#[derive(Clone, Copy)]
+#[derive(Clone, Copy, Debug, PartialEq, Eq)]
 pub struct Ordinal(pub usize);
 
-#[derive(Clone, Copy)]
+#[derive(Clone, Copy, Debug, PartialEq, Eq)]
 pub enum DataType {
     Int,
     Text,
     Bool,
 }
 
-#[derive(Clone, Copy)]
+#[derive(Clone, Copy, Debug, PartialEq, Eq)]
 pub enum ExpressionType {
     Int,
     Text,
@@ -29,20 +31,20 @@ pub enum ExpressionType {
 }
 
 // What a marking gives a node: a type, and whether the value may be null.
-#[derive(Clone, Copy)]
+#[derive(Clone, Copy, Debug, PartialEq, Eq)]
 pub struct Mark {
     pub ty: ExpressionType,
     pub nullable: bool,
 }
 
-#[derive(Clone, Copy)]
+#[derive(Clone, Copy, Debug, PartialEq, Eq)]
 pub enum BoundUnaryOperator {
     Positive,
     Negative,
     Not,
 }
 
-#[derive(Clone, Copy)]
+#[derive(Clone, Copy, Debug, PartialEq, Eq)]
 pub enum BoundBinaryOperator {
     Add,
     Subtract,
@@ -60,7 +62,7 @@ pub enum BoundBinaryOperator {
 }
 
 // The Rust's classes of error that the analyzer makes.
-#[derive(Clone, Copy)]
+#[derive(Clone, Copy, Debug, PartialEq, Eq)]
 pub enum Class {
     SchemaMismatch,
     ConstraintViolation,
@@ -68,7 +70,16 @@ pub enum Class {
     InvalidArgument,
 }
 
-#[derive(Clone, Copy)]
+#[derive(Clone, Copy, Debug, PartialEq, Eq)]
 pub struct Refusal {
     pub class: Class,
+}
+
+// A rule tells the class; where it is broken, the class is the refusal.
+impl From<Class> for Refusal {
+    ghost from_gives = { λ class refusal. refusal ≡ record { class = class } };
+
+    fn from(class: Class) -> Refusal {
+        Refusal { class }
+    }
 }
