@@ -2,6 +2,7 @@
 -- Assumes nothing.
 use mathlib.Core.Path.{◌≡◌, refl, ap, subst, ◌∙◌}
 use mathlib.Core.List.{List}
+use Rattle.std.proofs.Common.{Some, None}
 use mathlib.Core.Option.{Option, none, some}
 use Prim.Native.Nat.{ℕ, ◌<◌}
 use native.Mathlib.Omega.{arith}
@@ -13,7 +14,6 @@ use Rattle.catalogue_lookup.specs.declared.Named.{Named}
 use Rattle.catalogue_lookup.specs.declared.Named.TheVariants as named
 use Rattle.image_catalogue.specs.Layout.{table}
 use Rattle.catalogue_lookup.specs.Finds.{ColumnIs, FindsColumn}
-use Rattle.text_numbers.specs.declared.Literal.TheVariants as number
 use Rattle.text_numbers.specs.Literal as literal
 use Rattle.image_row.specs.Obeyed.{obeyed_at}
 use Rattle.rules.specs.declared.Ordinal.{Ordinal}
@@ -33,11 +33,11 @@ use Rattle.run_expression.proofs.Stored.{says_fault}
 
 -- ---- numbers
 
-pub number_is : (o : Option ℤ) {z : ℤ} → literal.told o ≡ number.Value z → worth.Int z ≡ plainly (told (literal_value o))
+pub number_is : (o : Option ℤ) {z : ℤ} → literal.told o ≡ Some z → worth.Int z ≡ plainly (told (literal_value o))
 number_is (some y) h = cc
 number_is none h = absurd (let n : ◌≡◌ {A = ℕ} 0 1 = cc in omega arith)
 
-pub number_bad : (o : Option ℤ) → literal.told o ≡ number.Bad → worth.Fault ≡ plainly (told (literal_value o))
+pub number_bad : (o : Option ℤ) → literal.told o ≡ None → worth.Fault ≡ plainly (told (literal_value o))
 number_bad (some y) h = absurd (let n : ◌≡◌ {A = ℕ} 0 1 = cc in omega arith)
 number_bad none h = refl
 

@@ -20,15 +20,15 @@ use image_expression::{kind, text};
 use image_row::value_at;
 use rules::Ordinal;
 use run_values::{Side, Worth};
-use text_numbers::{Literal, integer_literal};
+use text_numbers::integer_literal;
 
 // A number, under a minus or not: its text must be one of 64 signed bits.
 pub fn number(s: &[u8], negative: bool) -> Worth
     ensures { result ≡ plainly (told (literal_value (integer_literal negative s.now))) }
 {
     match integer_literal(s, negative) {
-        Literal::Value(z) => Worth::Int(z),
-        Literal::Bad => Worth::Fault,
+        Some(z) => Worth::Int(z),
+        None => Worth::Fault,
     }
 }
 

@@ -8,15 +8,16 @@ use Rattle.std.specs.Int.Signed.{lt_z, le_z}
 use Rattle.rules.specs.Bound.{Value}
 use Rattle.rules.specs.Lists.{Text}
 use Rattle.rules.specs.Evaluate.{is_null, as_bool, equal, less, same_int}
-use Rattle.text_order.specs.declared.Order.{Order}
-use Rattle.text_order.specs.declared.Order.TheVariants.{Less, Same, More}
-use Rattle.text_order.specs.Order.{order_of, is_less, is_same, is_more, told_same, told_less, told_more}
+use Rattle.std.specs.declared.cmp.Ordering.{Ordering}
+use Rattle.std.specs.declared.cmp.Ordering.TheVariants.{Less, Equal, Greater}
+use Rattle.std.specs.Ordering.{is_lt, is_eq, is_gt, int_cmp}
+use Rattle.text_order.specs.Order.{order_of, told_same, told_less, told_more}
 use Rattle.std.proofs.lemmas.Bool.{lt-leb}
 
-pub record Ordered (p q : Value) (o : Order) : Type 0 where
-  pub alike : equal p q ≡ some (is_same o)
-  pub below : less p q ≡ some (is_less o)
-  pub above : less q p ≡ some (is_more o)
+pub record Ordered (p q : Value) (o : Ordering) : Type 0 where
+  pub alike : equal p q ≡ some (is_eq o)
+  pub below : less p q ≡ some (is_lt o)
+  pub above : less q p ≡ some (is_gt o)
   pub no_bool : as_bool p ≡ none
   pub left : is_null p ≡ false
   pub right : is_null q ≡ false
@@ -54,15 +55,23 @@ never_both (negsuc a) (pos b) h = refl
 never_both (negsuc a) (negsuc b) h = le-ltb a b (omega (arith, ltb-true b a h))
 
 module _ (a b : ℤ) where
-  ints : {o : Order} → same_int a b ≡ is_same o → lt_z a b ≡ is_less o → lt_z b a ≡ is_more o → Ordered (Value.int a) (Value.int b) o
+  ints : {o : Ordering} → same_int a b ≡ is_eq o → lt_z a b ≡ is_lt o → lt_z b a ≡ is_gt o → Ordered (Value.int a) (Value.int b) o
   unfolding equal less
   ints s l m = record { alike = ap some s; below = ap some l; above = ap some m; no_bool = refl; left = refl; right = refl }
 
-  pub ints_less : lt_z a b ≡ true → Ordered (Value.int a) (Value.int b) Less
+  ints_less : lt_z a b ≡ true → Ordered (Value.int a) (Value.int b) Less
   ints_less h = ints (rw (least_first a b false (never_both a b h), least_first b a true h)) h (never_both a b h)
 
-  pub ints_more : lt_z b a ≡ true → Ordered (Value.int a) (Value.int b) More
+  ints_more : lt_z b a ≡ true → Ordered (Value.int a) (Value.int b) Greater
   ints_more h = ints (rw (least_first a b true h)) (never_both b a h) h
 
-  pub ints_same : lt_z a b ≡ false → lt_z b a ≡ false → Ordered (Value.int a) (Value.int b) Same
+  ints_same : lt_z a b ≡ false → lt_z b a ≡ false → Ordered (Value.int a) (Value.int b) Equal
   ints_same h k = ints (rw (least_first a b false k, least_first b a false h)) h k
+
+  pub ints_ordered : Ordered (Value.int a) (Value.int b) (int_cmp a b)
+  ints_ordered = go (lt_z a b) refl (lt_z b a) refl
+    where
+      go : (s : Bool) → lt_z a b ≡ s → (t : Bool) → lt_z b a ≡ t → Ordered (Value.int a) (Value.int b) (int_cmp a b)
+      go true h t k = rw h (ints_less h)
+      go false h true k = rw (h, k) (ints_more k)
+      go false h false k = rw (h, k) (ints_same h k)

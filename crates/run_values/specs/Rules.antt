@@ -1,12 +1,11 @@
 -- What the value rules come to for each kind of operand.
 -- Assumes nothing.
-use Rattle.std.specs.Prelude.{◌≡◌, Bool, true, false, not, ◌&&◌, ◌||◌, List, ℕ, ◌≤◌, ◌<◌, ℤ}
+use Rattle.std.specs.Prelude.{◌≡◌, Bool, true, false, not, ◌&&◌, ◌||◌, List, ℕ, ◌≤◌, ◌<◌, ℤ, Option as Answer}
 use Rattle.std.proofs.Math.Path.{refl, sym}
 use Rattle.std.proofs.Common.{ap, subst, ◌∙◌, arith}
 use Rattle.std.proofs.Math.Bool.{xor}
 use Rattle.std.specs.Bool.{beq}
 use Rattle.std.proofs.Math.Option.{Option, none, some}
-use Rattle.text_arith.specs.declared.Exact.{Exact}
 use Rattle.text_arith.specs.Exact.{told_exact}
 use Rattle.image_expression.specs.Place.{bin_of, bin_kind}
 use Rattle.image_expression.specs.Heads.{bin_kind_lem}
@@ -26,7 +25,7 @@ exact_told : (o : Option ℤ) → exact_worth (told_exact o) ≡ plainly (told (
 exact_told none = refl
 exact_told (some z) = refl
 
-pub exact_by : (o : Option ℤ) {x : Exact} {w : Worth} → w ≡ exact_worth x → x ≡ told_exact o → w ≡ plainly (told (exactly o))
+pub exact_by : (o : Option ℤ) {x : Answer ℤ} {w : Worth} → w ≡ exact_worth x → x ≡ told_exact o → w ≡ plainly (told (exactly o))
 exact_by o p q = p ∙ ap exact_worth q ∙ exact_told o
 
 -- ---- operands by what they stand for

@@ -1,11 +1,9 @@
 -- What a value that was worked out stands for, over a row and an expression's image.
 -- Assumes nothing.
-use Rattle.std.specs.Prelude.{◌≡◌, refl, Bool, true, false, cond, List, [], ◌∷◌, ℕ, zero, suc, ◌<◌, ltb, length, get_or}
+use Rattle.std.specs.Prelude.{◌≡◌, refl, Bool, true, false, cond, List, [], ◌∷◌, ℕ, zero, suc, ◌<◌, ltb, ℤ, length, get_or, Option as Answer, Some, None}
 use Rattle.std.proofs.Common.{sym, ap, ◌∙◌, arith, ltb-true}
 use Rattle.std.proofs.lemmas.Bool.{false≢true}
 use Rattle.std.proofs.Math.Option.{Option, none, some, none-ne-some}
-use Rattle.text_arith.specs.declared.Exact.{Exact}
-use Rattle.text_arith.specs.declared.Exact.TheVariants as exact
 use Rattle.bytes_format.specs.Ways.{next}
 use Rattle.bytes_bundle.specs.Held.{Is, Holds}
 use Rattle.image_expression.specs.Place.{node_count, node_at, IsImage}
@@ -78,9 +76,9 @@ is_plain (some (Value.text s)) = false
 is_plain (some (Value.bool b)) = true
 is_plain (some Value.null) = true
 
-abbrev pub exact_worth : Exact → Worth
-exact_worth (exact.Value z) = worth.Int z
-exact_worth exact.Fault = worth.Fault
+abbrev pub exact_worth : Answer ℤ → Worth
+exact_worth (Some z) = worth.Int z
+exact_worth None = worth.Fault
 
 -- one operand and two, where an operand that has no value leaves none
 abbrev pub over_one : Unary → Option Value → Worth

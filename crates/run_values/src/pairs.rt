@@ -10,7 +10,7 @@ ghost use Rattle.rules.specs.Rows.{Row};
 ghost use Rattle.run_values.specs.declared.Worth.TheVariants as worth;
 ghost use Rattle.run_values.specs.Worths.{told, plainly, value_of, Sound, Images, SoundOver, over_two};
 
-use crate::orders::{compared, int_order};
+use crate::orders::compared;
 use crate::singles::exact;
 use crate::{Side, Worth, text_of};
 use text_order::compare;
@@ -26,7 +26,7 @@ fn ints(k: u8, m: i64, n: i64) -> Worth
         18 => exact(text_arith::mul(m, n)),
         19 => exact(text_arith::div(m, n)),
         20 => exact(text_arith::rem(m, n)),
-        _ => compared(k, int_order(m, n)),
+        _ => compared(k, m.cmp(&n)),
     }
 }
 

@@ -8,14 +8,13 @@ ghost use Rattle.rules.specs.Statements.{null_test};
 ghost use Rattle.run_values.specs.Worths.{told, plainly, exact_worth, value_of, Sound, over_one};
 
 use crate::Worth;
-use text_arith::Exact;
 
-pub fn exact(x: Exact) -> Worth
+pub fn exact(x: Option<i64>) -> Worth
     ensures { result ≡ exact_worth x }
 {
     match x {
-        Exact::Value(z) => Worth::Int(z),
-        Exact::Fault => Worth::Fault,
+        Some(z) => Worth::Int(z),
+        None => Worth::Fault,
     }
 }
 

@@ -1,9 +1,11 @@
 -- `pairs::ints` meets its contract: in each arm the kind is known.
+use mathlib.Core.Path.{subst, sym}
 use mir.Facts.{to_z-of_z}
 use Rattle.image_expression.specs.Place.{bin_of}
 use Rattle.rules.specs.Bound.{Value}
 use Rattle.rules.specs.Evaluate.{binary_value, operate, arithmetic}
 use Rattle.rules.specs.Numbers.{sum, difference, product, quotient, remainder}
+use Rattle.run_values.specs.Orders.{Ordered, ints_ordered}
 use Rattle.run_values.specs.Rules.{exact_by}
 use Rattle.run_values.proofs.Arms.{past}
 use Rattle.run_values.proofs.pairs.ints.Goals as goal
@@ -40,4 +42,4 @@ returns-in-20 c =
 
 pub returns-in_default : goal.returns-in_default
 returns-in_default c =
-    c.compared.ensures (Value.int c.args.m) (Value.int c.args.n) (rw (to_z-of_z c.ranges.m, to_z-of_z c.ranges.n) at c.int_order.ensures)
+    c.compared.ensures (Value.int c.args.m) (Value.int c.args.n) (subst (Ordered (Value.int c.args.m) (Value.int c.args.n)) (sym (rw (to_z-of_z c.ranges.m, to_z-of_z c.ranges.n) at c.cmp.ensures)) (ints_ordered c.args.m c.args.n))
