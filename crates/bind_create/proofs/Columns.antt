@@ -6,11 +6,10 @@ use mathlib.Core.List.{List}
 use Prim.Native.Nat.{ℕ, ◌+◌, ◌-◌, ◌≤◌}
 use native.Mathlib.Omega.{arith}
 use lib.ListN.{length, take, drop, drop_of_length-le}
+use Rattle.std.specs.Prelude.{Result, Ok, Err}
 use Rattle.bytes_format.proofs.Formats.{list_of}
 use Rattle.bytes_bundle.specs.Bundle.{Stepped}
 use Rattle.bytes_bundle.specs.Held.{Holds, Along, turn, list_count}
-use Rattle.bind_options.specs.declared.Step.{Step}
-use Rattle.bind_options.specs.declared.Step.TheVariants as step
 use Rattle.bind_options.specs.declared.OptionState as declared
 use Rattle.bind_options.specs.Steps.{state_of, step_of}
 use Rattle.rules.specs.declared.Class.{Class}
@@ -86,11 +85,11 @@ module _ {s : List ℕ} {t : OptionState} {i at e : ℕ} (l : OptionsLeft s t i)
       l.is os h ∙ ap (options t) u.rest ∙ options_next t u.value (drop (i + 1) os)
       ∙ ap (λ (a : Answer OptionState). a >>= (λ u. options u (drop (i + 1) os))) (sym (g u.value u.holds))
 
-  module _ {r : Step} (g : (v : ColumnOption) → Holds option (take (e - at) (drop at s)) v → step_of r ≡ one_option t v) where
-    pub options_on : {n : declared.OptionState} → r ≡ step.Next n → OptionsLeft s (state_of n) (i + 1)
+  module _ {r : Result declared.OptionState Class} (g : (v : ColumnOption) → Holds option (take (e - at) (drop at s)) v → step_of r ≡ one_option t v) where
+    pub options_on : {n : declared.OptionState} → r ≡ Ok n → OptionsLeft s (state_of n) (i + 1)
     options_on q = record { is = λ os h. one_left g os h ∙ step_on (λ u. options u (drop (i + 1) os)) (ap step_of q) }
 
-    pub options_stop : {k : Class} → r ≡ step.Refused k → (os : List ColumnOption) → Holds (list_of 2 option) s os → refuse k ≡ options no_options os
+    pub options_stop : {k : Class} → r ≡ Err k → (os : List ColumnOption) → Holds (list_of 2 option) s os → refuse k ≡ options no_options os
     options_stop q os h = sym (one_left g os h ∙ step_off (λ u. options u (drop (i + 1) os)) (ap step_of q))
 
 pub options_end : {s : List ℕ} {t : OptionState} {n i at : ℕ} → OptionsLeft s t i → Along s n i at → n ≤ i → (os : List ColumnOption) → Holds (list_of 2 option) s os → given t ≡ options no_options os

@@ -22,7 +22,7 @@ ghost use Rattle.bind_create.specs.Defined.{one_option, finish_column, judge_col
 ghost use Rattle.bind_create.specs.Keys.{has_key, inlined, constrained, KeyAt, ReadsColumns, ReadsConstraints, ReadsKey, counted, FindsColumn};
 ghost use Rattle.bind_create.specs.Within.{CreateWithin, FewColumns, FewNames, PlaceIn, KeyIn};
 
-use bind_options::{OptionState, Step};
+use bind_options::OptionState;
 use bind_repeats::{Of, Repeat, are_alike_names, is_at};
 use bind_table::{Measured, new_table_name, refuse};
 use image_bound::bundles::ids_len;
@@ -52,12 +52,12 @@ pub enum Place {
 
 // ---- a column
 
-fn take_option(state: OptionState, o: &[u8]) -> Step
+fn take_option(state: OptionState, o: &[u8]) -> Result<OptionState, Class>
     requires { Is option o.now }
     ensures { (v : ColumnOption) → Holds option o.now v → step_of result ≡ one_option (state_of state) v }
 {
     if image_create::option_named(o) {
-        return Step::Refused(Class::UnsupportedSql);
+        return Err(Class::UnsupportedSql);
     }
     let kind = image_create::option_kind(o);
     if kind == 0 {
@@ -69,10 +69,10 @@ fn take_option(state: OptionState, o: &[u8]) -> Step
     if kind == 2 {
         return state.key();
     }
-    Step::Refused(Class::UnsupportedSql)
+    Err(Class::UnsupportedSql)
 }
 
-pub fn take_options(s: &[u8]) -> Step
+pub fn take_options(s: &[u8]) -> Result<OptionState, Class>
     requires { Is (list_of 2 option) s.now }
     ensures { (os : List ColumnOption) → Holds (list_of 2 option) s.now os → step_of result ≡ options no_options os }
 {
@@ -82,18 +82,11 @@ pub fn take_options(s: &[u8]) -> Step
     let mut i = 0;
     while i < n {
         let end = bytes_bundle::next(s, 2, i, at);
-        match take_option(state, &s[at..end]) {
-            Step::Next(next) => {
-                state = next;
-            }
-            Step::Refused(class) => {
-                return Step::Refused(class);
-            }
-        }
+        state = take_option(state, &s[at..end])?;
         at = end;
         i += 1;
     }
-    Step::Next(state)
+    Ok(state)
 }
 
 fn is_second(key: Key, is_key: bool) -> bool
@@ -147,8 +140,8 @@ fn define_column(d: &[u8], i: usize, key: Key, repeated: bool) -> Keyed
         return Keyed::Refused(Class::ConstraintViolation);
     }
     match take_options(image_create::options(d)) {
-        Step::Next(state) => finish_column(d, i, key, state),
-        Step::Refused(class) => Keyed::Refused(class),
+        Ok(state) => finish_column(d, i, key, state),
+        Err(class) => Keyed::Refused(class),
     }
 }
 

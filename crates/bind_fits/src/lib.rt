@@ -6,16 +6,10 @@ ghost use Rattle.rules.specs.Bound.{Value, BoundColumnRef};
 ghost use Rattle.rules.specs.Lookup.{expression_type, column_mark};
 ghost use Rattle.rules.specs.Fits.{is_condition, fit};
 ghost use Rattle.rules.specs.Analyze.{same_type, typed_fit, value_fit};
-ghost use Rattle.bind_fits.specs.Told.{told_fit, kind_of, null_fit};
+ghost use Rattle.bind_operators.specs.Told.{told};
+ghost use Rattle.bind_fits.specs.Told.{kind_of, null_fit};
 
-use bind_operators::same_type;
 use rules::{Class, DataType, ExpressionType, Mark};
-
-#[derive(Clone, Copy)]
-pub enum Fit {
-    Fine,
-    Flaw(Class),
-}
 
 // What a value of a VALUES list is, as far as its column asks.
 #[derive(Clone, Copy)]
@@ -47,49 +41,49 @@ pub fn column_mark(ty: DataType, nullable: bool) -> Mark
 }
 
 // NULL, or what may be NULL, given to a column.
-fn null_fit(nullable: bool) -> Fit
+fn null_fit(nullable: bool) -> Result<(), Class>
     ensures { result ≡ null_fit nullable }
 {
     if nullable {
-        return Fit::Fine;
+        return Ok(());
     }
-    Fit::Flaw(Class::ConstraintViolation)
+    Err(Class::ConstraintViolation)
 }
 
 // An expression's value given to a column, by its mark.
-pub fn expression_fit(m: Mark, ty: DataType, nullable: bool) -> Fit
-    ensures { (c : BoundColumnRef) → c.ty ≡ ty → c.nullable ≡ nullable → result ≡ told_fit (fit m c) }
+#[tactic(auto, unfolding(rules::specs::Fits::fit))]
+pub fn expression_fit(m: Mark, ty: DataType, nullable: bool) -> Result<(), Class>
+    ensures { (c : BoundColumnRef) → c.ty ≡ ty → c.nullable ≡ nullable → result ≡ told (fit m c) }
 {
     let given = m.ty;
     // NULL is of no column's type: whether it is allowed is told first
-    if same_type(given, ExpressionType::Null) {
+    if given == ExpressionType::Null {
         return null_fit(nullable);
     }
     let wanted = expression_type(ty);
-    if !same_type(given, wanted) {
-        return Fit::Flaw(Class::SchemaMismatch);
+    if given != wanted {
+        return Err(Class::SchemaMismatch);
     }
     if m.nullable {
         return null_fit(nullable);
     }
-    Fit::Fine
+    Ok(())
 }
 
-fn typed_fit(ty: DataType, given: DataType) -> Fit
-    ensures { result ≡ told_fit (typed_fit (same_type ty given)) }
+fn typed_fit(ty: DataType, given: DataType) -> Result<(), Class>
+    ensures { result ≡ told (typed_fit (same_type ty given)) }
 {
-    let a = expression_type(ty);
-    let b = expression_type(given);
-    if same_type(a, b) {
-        return Fit::Fine;
+    if ty == given {
+        return Ok(());
     }
-    Fit::Flaw(Class::SchemaMismatch)
+    Err(Class::SchemaMismatch)
 }
 
 // A literal of a VALUES list given to a column.
-pub fn value_fit(kind: ValueKind, ty: DataType, nullable: bool) -> Fit
+#[tactic(auto, using(crate::proofs::Laws::kind_told, crate::proofs::Laws::null_told))]
+pub fn value_fit(kind: ValueKind, ty: DataType, nullable: bool) -> Result<(), Class>
     ensures { (v : Value) (c : BoundColumnRef) → kind_of v ≡ kind → c.ty ≡ ty → c.nullable ≡ nullable
-        → result ≡ told_fit (value_fit v c) }
+        → result ≡ told (value_fit v c) }
 {
     match kind {
         ValueKind::Int => typed_fit(ty, DataType::Int),
@@ -100,12 +94,11 @@ pub fn value_fit(kind: ValueKind, ty: DataType, nullable: bool) -> Fit
 }
 
 // A WHERE must be BOOL.
-pub fn condition(m: Mark) -> Fit
-    ensures { result ≡ told_fit (is_condition m) }
+pub fn condition(m: Mark) -> Result<(), Class>
+    ensures { result ≡ told (is_condition m) }
 {
-    let ty = m.ty;
-    if same_type(ty, ExpressionType::Bool) {
-        return Fit::Fine;
+    if m.ty == ExpressionType::Bool {
+        return Ok(());
     }
-    Fit::Flaw(Class::SchemaMismatch)
+    Err(Class::SchemaMismatch)
 }

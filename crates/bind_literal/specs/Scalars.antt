@@ -1,6 +1,6 @@
 -- What a value of a VALUES list is, told by the kinds of its nodes.
 -- Assumes nothing.
-use Rattle.std.specs.Prelude.{◌≡◌, Bool, true, false, List, ℕ, zero, suc, ◌-◌, ◌≤◌, ◌<◌, eqb, ℤ, length, get_or, Some, None}
+use Rattle.std.specs.Prelude.{◌≡◌, Bool, true, false, List, ℕ, zero, suc, ◌-◌, ◌≤◌, ◌<◌, eqb, ℤ, length, get_or, Some, None, Result, Ok, Err}
 use Rattle.std.proofs.Math.Path.{refl, sym, ap, ap₂}
 use Rattle.std.proofs.Common.{◌∙◌, arith, lit<, Fits}
 use Rattle.std.proofs.Math.Option.{Option, none, some}
@@ -11,6 +11,7 @@ use Rattle.bytes_bundle.specs.Held.{Is, Holds, held}
 use Rattle.rules.specs.declared.BoundUnaryOperator.TheVariants.{Positive, Negative, Not}
 use Rattle.rules.specs.declared.Class.{Class}
 use Rattle.rules.specs.declared.Class.TheVariants.{SchemaMismatch, UnsupportedSql}
+use Rattle.rules.specs.declared.Refusal.{Refusal}
 use Rattle.rules.specs.Lists.{Text}
 use Rattle.rules.specs.Answers.{Answer, given, refused, refuse}
 use Rattle.rules.specs.Bound.{Value}
@@ -29,22 +30,22 @@ use Rattle.bind_literal.specs.declared.Scalar.{Scalar}
 use Rattle.bind_literal.specs.declared.Scalar.TheVariants as scalar
 
 -- the value of a scalar, where the text of the node is s
-abbrev pub value_of : Text → Scalar → Answer Value
-value_of s (scalar.Int z) = given (Value.int z)
-value_of s scalar.Text = given (Value.text s)
-value_of s (scalar.Bool b) = given (Value.bool b)
-value_of s scalar.Null = given Value.null
-value_of s (scalar.Refused r) = refused r
+abbrev pub value_of : Text → Result Scalar Refusal → Answer Value
+value_of s (Ok (scalar.Int z)) = given (Value.int z)
+value_of s (Ok scalar.Text) = given (Value.text s)
+value_of s (Ok (scalar.Bool b)) = given (Value.bool b)
+value_of s (Ok scalar.Null) = given Value.null
+value_of s (Err r) = refused r
 
-abbrev pub refused_with : Class → Scalar
-refused_with k = scalar.Refused (record { class = k })
+abbrev pub refused_with : Class → Result Scalar Refusal
+refused_with k = Err (record { class = k })
 
 -- the text of the last node: where an expression is a string, the string
 abbrev pub text_in : List ℕ → Text
 text_in e = (node_at e (node_count e - 1)).text
 
 -- r is what the tree at node i is taken as
-pub record Tells (e : List ℕ) (i : ℕ) (r : Scalar) : Type 0 where
+pub record Tells (e : List ℕ) (i : ℕ) (r : Result Scalar Refusal) : Type 0 where
   pub at : (x : Expr) → Root (node_at e) i x → insert_literal x ≡ value_of (node_at e i).text r
 
 -- ---- leaves
@@ -63,7 +64,7 @@ leaf_other (suc (suc (suc (suc (suc (suc (suc zero))))))) s a b c d e = refl
 leaf_other (suc (suc (suc (suc (suc (suc (suc (suc n)))))))) s a b c d e = refl
 
 -- what is said of a leaf of kind k
-pub leaf_tells : (e : List ℕ) (i k : ℕ) {r : Scalar} → k ≡ (node_at e i).kind → k < 9 → insert_leaf (leaf_of k (node_at e i).text) ≡ value_of (node_at e i).text r → Tells e i r
+pub leaf_tells : (e : List ℕ) (i k : ℕ) {r : Result Scalar Refusal} → k ≡ (node_at e i).kind → k < 9 → insert_leaf (leaf_of k (node_at e i).text) ≡ value_of (node_at e i).text r → Tells e i r
 unfolding insert_literal
 leaf_tells e i k is hi h = record { at = λ x g. ap insert_literal (leaf_at (node_at e) i k is x g hi) ∙ h }
 
@@ -110,7 +111,7 @@ module _ (v : ℕ → Node) (j : ℕ) where
   no_number_below (un o a) g h = refl
   no_number_below (bin o a b) g h = refl
 
-module _ (e : List ℕ) (i k : ℕ) {r : Scalar} (is : k ≡ (node_at e i).kind) where
+module _ (e : List ℕ) (i k : ℕ) {r : Result Scalar Refusal} (is : k ≡ (node_at e i).kind) where
   pub sign_tells : 12 ≤ k → k < 14 → (node_at e (i - 1)).kind ≡ 2 → ((t : Text) → integer (integer_literal (eqb k 13) (node_at e (i - 1)).text) ≡ value_of t r) → Tells e i r
   unfolding Root top insert_literal signed_number
   sign_tells lo hi z h = record { at = go }
@@ -146,7 +147,7 @@ module _ (e : List ℕ) (i k : ℕ) {r : Scalar} (is : k ≡ (node_at e i).kind)
 
 -- ---- what the last node says of the whole
 
-pub last_tells : {e : List ℕ} {r : Scalar} → Bytes e → Tells e (node_count e - 1) r → (x : Expr) → Holds expression e x → insert_literal x ≡ value_of (text_in e) r
+pub last_tells : {e : List ℕ} {r : Result Scalar Refusal} → Bytes e → Tells e (node_count e - 1) r → (x : Expr) → Holds expression e x → insert_literal x ≡ value_of (text_in e) r
 last_tells b t x h = t.at x (placed b h).0
 
 -- no text is longer than its expression

@@ -9,7 +9,7 @@ ghost use Rattle.rules.specs.Analyze as analyze;
 ghost use Rattle.rules.specs.Lists.{Text};
 ghost use Rattle.rules.specs.Numbers.{integer_literal};
 ghost use Rattle.rules.specs.Statements.{Expr};
-ghost use Rattle.bind_literal.specs.Scalars.{value_of, refused_with, text_in, Tells};
+ghost use Rattle.bind_literal.specs.Scalars.{value_of, text_in, Tells};
 
 use image_expression::{kind, nodes, text};
 use rules::{Class, Refusal};
@@ -22,59 +22,56 @@ pub enum Scalar {
     Text,
     Bool(bool),
     Null,
-    Refused(Refusal),
-}
-
-fn refuse(class: Class) -> Scalar
-    ensures { result ≡ refused_with class }
-{
-    Scalar::Refused(Refusal { class })
 }
 
 // A number, under a minus or not: its text must be one of 64 signed bits.
-fn integer(s: &[u8], negative: bool) -> Scalar
+#[tactic(auto, using(crate::proofs::Laws::numbers))]
+fn integer(s: &[u8], negative: bool) -> Result<Scalar, Refusal>
     ensures { (t : Text) → analyze.integer (integer_literal negative s.now) ≡ value_of t result }
 {
     match integer_literal(s, negative) {
-        Some(z) => Scalar::Int(z),
-        None => refuse(Class::SchemaMismatch),
+        Some(z) => Ok(Scalar::Int(z)),
+        None => Err(Class::SchemaMismatch.into()),
     }
 }
 
 // A leaf by its kind: 2 a number, 3 a string, 4 TRUE, 5 FALSE, 6 NULL; names and other leaves are no literals.
-fn leaf(e: &[u8], i: usize, k: u8) -> Scalar
+#[tactic(auto, using(crate::proofs::Laws::leaves), unfolding(image_expression::specs::Place::leaf_of, rules::specs::Analyze::insert_leaf))]
+fn leaf(e: &[u8], i: usize, k: u8) -> Result<Scalar, Refusal>
     requires { HasNode e.now i × ((k ≡ (node_at e.now i).kind) × (k < 9)) }
     ensures { Tells e.now i result }
 {
     match k {
         2 => integer(text(e, i), false),
-        3 => Scalar::Text,
-        4 => Scalar::Bool(true),
-        5 => Scalar::Bool(false),
-        6 => Scalar::Null,
-        _ => refuse(Class::UnsupportedSql),
+        3 => Ok(Scalar::Text),
+        4 => Ok(Scalar::Bool(true)),
+        5 => Ok(Scalar::Bool(false)),
+        6 => Ok(Scalar::Null),
+        _ => Err(Class::UnsupportedSql.into()),
     }
 }
 
 // One operand: 12 is +, 13 -, and directly below it a number.
-fn signed(e: &[u8], i: usize, k: u8) -> Scalar
+#[tactic(auto, using(crate::proofs::Laws::signs))]
+fn signed(e: &[u8], i: usize, k: u8) -> Result<Scalar, Refusal>
     requires { HasNode e.now i × ((k ≡ (node_at e.now i).kind) × ((9 ≤ k) × (k < 16))) }
     ensures { Tells e.now i result }
 {
     if k < 12 {
-        return refuse(Class::UnsupportedSql);
+        return Err(Class::UnsupportedSql.into());
     }
     if 14 <= k {
-        return refuse(Class::UnsupportedSql);
+        return Err(Class::UnsupportedSql.into());
     }
     let below = i - 1;
     if kind(e, below) != 2 {
-        return refuse(Class::UnsupportedSql);
+        return Err(Class::UnsupportedSql.into());
     }
     integer(text(e, below), k == 13)
 }
 
-pub fn insert_literal(e: &[u8]) -> Scalar
+#[tactic(auto, using(crate::proofs::Laws::wholes))]
+pub fn insert_literal(e: &[u8]) -> Result<Scalar, Refusal>
     requires { Is expression e.now }
     ensures { (x : Expr) → Holds expression e.now x → analyze.insert_literal x ≡ value_of (text_in e.now) result }
 {
@@ -84,12 +81,13 @@ pub fn insert_literal(e: &[u8]) -> Scalar
         return leaf(e, last, k);
     }
     if 16 <= k {
-        return refuse(Class::UnsupportedSql);
+        return Err(Class::UnsupportedSql.into());
     }
     signed(e, last, k)
 }
 
 // The text of a value that is a text.
+#[tactic(auto, using(crate::proofs::Laws::wholes))]
 pub fn text_of(e: &[u8]) -> &[u8]
     requires { Is expression e.now }
     ensures { (result.now ≡ text_in e.now) × (length result.now ≤ length e.now) }

@@ -1,5 +1,5 @@
-// What the options of a column have said so far. Each option is taken by a method, which hands back the new state or a refusal.
-#![tactic(auto)]
+// What the options of a column have said so far. Each option is taken by a method, which hands back the new state or the class of a refusal.
+#![tactic(auto, unfolding(rules::specs::Analyze::option_of, rules::specs::Analyze::set_nullability))]
 
 ghost use Rattle.std.specs.Prelude.{◌≡◌, Bool, not, ◌&&◌};
 ghost use Rattle.std.proofs.Math.Option.{some};
@@ -9,7 +9,7 @@ ghost use Rattle.bind_options.specs.Steps.{nullability_of, state_of, step_of};
 
 use rules::Class;
 
-#[derive(Clone, Copy)]
+#[derive(Clone, Copy, PartialEq, Eq)]
 pub enum Nullability {
     Unsaid,
     Null,
@@ -20,12 +20,6 @@ pub enum Nullability {
 pub struct OptionState {
     pub nullability: Nullability,
     pub key: bool,
-}
-
-#[derive(Clone, Copy)]
-pub enum Step {
-    Next(OptionState),
-    Refused(Class),
 }
 
 // A column of which no option is read yet.
@@ -40,68 +34,48 @@ pub fn start() -> OptionState
 
 impl OptionState {
     // Nullability that is given again is refused, even where it agrees.
-    fn set_nullability(self, given: Nullability) -> Step
+    fn set_nullability(self, given: Nullability) -> Result<OptionState, Class>
         ensures { (n : Bool) → nullability_of given ≡ some n → step_of result ≡ set_nullability (state_of self) n }
     {
-        let said = self.nullability;
-        match said {
-            Nullability::Unsaid => Step::Next(OptionState {
-                nullability: given,
-                key: self.key,
-            }),
-            Nullability::Null => Step::Refused(Class::ConstraintViolation),
-            Nullability::NotNull => Step::Refused(Class::ConstraintViolation),
+        if self.nullability != Nullability::Unsaid {
+            return Err(Class::ConstraintViolation);
         }
+        Ok(OptionState {
+            nullability: given,
+            ..self
+        })
     }
 
-    pub fn null(self) -> Step
+    pub fn null(self) -> Result<OptionState, Class>
         ensures { step_of result ≡ option_of (state_of self) option_null }
     {
         self.set_nullability(Nullability::Null)
     }
 
-    pub fn not_null(self) -> Step
+    pub fn not_null(self) -> Result<OptionState, Class>
         ensures { step_of result ≡ option_of (state_of self) option_not_null }
     {
         self.set_nullability(Nullability::NotNull)
     }
 
     // A key may be given twice. With NULL it is refused only once all options are read, by `is_refused_key`.
-    pub fn key(self) -> Step
+    pub fn key(self) -> Result<OptionState, Class>
         ensures { step_of result ≡ option_of (state_of self) option_key }
     {
-        let said = self.nullability;
-        let next = OptionState {
-            nullability: said,
-            key: true,
-        };
-        Step::Next(next)
+        Ok(OptionState { key: true, ..self })
     }
 
     // A key together with NULL.
     pub fn is_refused_key(self) -> bool
         ensures { result ≡ ((state_of self).key && said_null (state_of self).nullability) }
     {
-        let said = self.nullability;
-        match said {
-            Nullability::Unsaid => false,
-            Nullability::Null => self.key,
-            Nullability::NotNull => false,
-        }
+        self.key && self.nullability == Nullability::Null
     }
 
     // Whether the column may be null: key columns are not nullable, others are unless NOT NULL.
     pub fn nullable(self) -> bool
         ensures { result ≡ (not (state_of self).key && not (said_not_null (state_of self).nullability)) }
     {
-        if self.key {
-            return false;
-        }
-        let said = self.nullability;
-        match said {
-            Nullability::Unsaid => true,
-            Nullability::Null => true,
-            Nullability::NotNull => false,
-        }
+        !self.key && self.nullability != Nullability::NotNull
     }
 }

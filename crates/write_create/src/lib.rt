@@ -27,7 +27,6 @@ ghost use Rattle.image_catalogue.specs.Layout.{catalogue};
 ghost use Rattle.write_create.specs.Parts.{column_name, id_at, Marked, KeyMarks, made_columns, table_of, Roomy, RoomyList, PlainName, Writable};
 
 use bind_create::{Key, Keyed, Place, column_called, find_key, take_options};
-use bind_options::Step;
 use bind_repeats::Repeat;
 use image_bound::bundles::{put_head3, put_ids};
 use image_bound::columns::put_column_schema;
@@ -64,9 +63,9 @@ fn may_be_null(d: &[u8]) -> bool
     ensures { (v : ColumnDefinition) → Holds column_definition d.now v → result ≡ may_be_null (stated (options no_options v.options)) }
 {
     match take_options(image_create::options(d)) {
-        Step::Next(state) => state.nullable(),
+        Ok(state) => state.nullable(),
         // never: no option of a bound statement is refused
-        Step::Refused(_) => true,
+        Err(_) => true,
     }
 }
 

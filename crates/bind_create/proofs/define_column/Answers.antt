@@ -21,15 +21,15 @@ returns-then-repeated c = λ v h.
 pub take_options-requires : goal.take_options-requires
 take_options-requires c = held c.requires (λ v h. is_held {f = list_of 2 option} (c.options.ensures v h))
 
-pub returns-in-Next : goal.returns-in-Next
-returns-in-Next c = λ v h.
+pub returns-in-Ok : goal.returns-in-Ok
+returns-in-Ok c = λ v h.
     let a = c.args in
     c.finish_column.ensures v h
     ∙ sym (ap (inlined a.i a.key) (judge_finish a.repeated (has_key a.key) v (sym (c.collation.ensures v h) ∙ c.if-collation.false) c.if-repeated.false
-    (sym (c.take_options.ensures v.options (c.options.ensures v h)) ∙ ap step_of c.in-Next.is)))
+    (sym (c.take_options.ensures v.options (c.options.ensures v h)) ∙ ap step_of c.in-Ok.is)))
 
-pub returns-in-Refused : goal.returns-in-Refused
-returns-in-Refused c = λ v h.
+pub returns-in-Err : goal.returns-in-Err
+returns-in-Err c = λ v h.
     let a = c.args in
     sym (ap (inlined a.i a.key) (judge_options a.repeated (has_key a.key) v (sym (c.collation.ensures v h) ∙ c.if-collation.false) c.if-repeated.false
-    (sym (c.take_options.ensures v.options (c.options.ensures v h)) ∙ ap step_of c.in-Refused.is)))
+    (sym (c.take_options.ensures v.options (c.options.ensures v h)) ∙ ap step_of c.in-Err.is)))

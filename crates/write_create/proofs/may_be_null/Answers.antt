@@ -12,10 +12,10 @@ use Rattle.write_create.proofs.may_be_null.Goals as goal
 pub take_options-requires : goal.take_options-requires
 take_options-requires c = held c.requires (λ v h. is_held {f = list_of 2 option} (c.options.ensures v h))
 
-pub returns-in-Next : goal.returns-in-Next
-returns-in-Next c = λ v h.
-    c.nullable.ensures ∙ ap (λ (a : Answer OptionState). may_be_null (stated a)) (sym (ap step_of c.in-Next.is) ∙ c.take_options.ensures v.options (c.options.ensures v h))
+pub returns-in-Ok : goal.returns-in-Ok
+returns-in-Ok c = λ v h.
+    c.nullable.ensures ∙ ap (λ (a : Answer OptionState). may_be_null (stated a)) (sym (ap step_of c.in-Ok.is) ∙ c.take_options.ensures v.options (c.options.ensures v h))
 
-pub returns-in-Refused : goal.returns-in-Refused
-returns-in-Refused c = λ v h.
-    ap (λ (a : Answer OptionState). may_be_null (stated a)) (sym (ap step_of c.in-Refused.is) ∙ c.take_options.ensures v.options (c.options.ensures v h))
+pub returns-in-Err : goal.returns-in-Err
+returns-in-Err c = λ v h.
+    ap (λ (a : Answer OptionState). may_be_null (stated a)) (sym (ap step_of c.in-Err.is) ∙ c.take_options.ensures v.options (c.options.ensures v h))
