@@ -3,10 +3,11 @@
 -- `sized_refused`.
 -- Assumes nothing.
 use Rattle.std.proofs.Math.Path.{◌≡◌, ap}
-use Rattle.std.specs.Prelude.{refl, Bool, true, false, List, ℕ, Result, Ok, Err}
+use Rattle.std.specs.Prelude.{refl, Bool, true, false, List, ℕ, Result, Ok, Err, IsErrAnd}
 use Rattle.std.proofs.Common.{sym, ◌∙◌, subst, arith}
 use Rattle.std.proofs.Math.Option.{Option, none, some}
 use Rattle.std.proofs.Math.ListN.{length}
+use Rattle.std.proofs.lemmas.Result.{err_from_is_err_and}
 use Rattle.bytes_format.specs.Format.{Format}
 use Rattle.image_catalogue.specs.Layout.{table}
 use Rattle.catalogue_lookup.specs.Finds.{LiesAs}
@@ -83,6 +84,14 @@ module _ {A : Type 0} (f : Format A) where
   -- what was measured of the rest is what was measured of all
   pub sized_as : {m : Result ℕ Refusal} {a b : Answer A} → a ≡ b → m ≡ sized f b → m ≡ sized f a
   sized_as e h = h ∙ ap (sized f) (sym e)
+
+-- a `?` that meets a refusal answers with it
+pub handed_on : {A : Type 0} {m : Result A Refusal} {r : Refusal} → IsErrAnd m (λ (x : Refusal). x ≡ r) → m ≡ Err r
+handed_on {m = m} h = let p = err_from_is_err_and m h in p.1 ∙ ap Err p.2
+
+module _ {A : Type 0} (f : Format A) where
+  pub sized_handed : {m : Result ℕ Refusal} {a : Answer A} {r : Refusal} → IsErrAnd m (λ (x : Refusal). x ≡ r) → a ≡ refused r → m ≡ sized f a
+  sized_handed h e = handed_on h ∙ sized_refused f e
 
 -- an answer gave something that is n bytes long
 pub record Sized {A : Type 0} (f : Format A) (a : Answer A) (n : ℕ) : Type 0 where
