@@ -86,7 +86,7 @@ module _ {A : Type 0} (f : Format A) where
   sized_as e h = h ∙ ap (sized f) (sym e)
 
 -- a `?` that meets a refusal answers with it
-pub handed_on : {A : Type 0} {m : Result A Refusal} {r : Refusal} → IsErrAnd m (λ (x : Refusal). x ≡ r) → m ≡ Err r
+pub handed_on : {A E : Type 0} {m : Result A E} {r : E} → IsErrAnd m (λ (x : E). x ≡ r) → m ≡ Err r
 handed_on {m = m} h = let p = err_from_is_err_and m h in p.1 ∙ ap Err p.2
 
 module _ {A : Type 0} (f : Format A) where

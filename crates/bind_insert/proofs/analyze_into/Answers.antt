@@ -35,8 +35,7 @@ parts-n-requires c = (search rules, list_bundle name (names (goal.at.parts-n-req
 
 pub returns-then-n-eq0 : goal.returns-then-n-eq0
 returns-then-n-eq0 c =
-    λ v w ht h. c.refuse.ensures
-    ∙ sized_refused bound_statement (into_none v w (list_count name c.columns-names.result.now (c.columns-names.ensures w h) ∙ sym c.parts-n.ensures ∙ c.if-n-eq0.true))
+    λ v w ht h. sized_refused bound_statement (into_none v w (list_count name c.columns-names.result.now (c.columns-names.ensures w h) ∙ sym c.parts-n.ensures ∙ c.if-n-eq0.true))
 
 pub bind_columns-requires : goal.bind_columns-requires
 bind_columns-requires c = (c.requires.0, (names (goal.at.bind_columns-requires c).After-columns-names, search rules))

@@ -15,8 +15,8 @@ parts-requires c = (search rules, list_bundle expression c.requires.0)
 pub returns-then-parts-n : goal.returns-then-parts-n
 returns-then-parts-n c =
     let p = c.parts.ensures in (
-      subst (AtMost 4194628) (sym c.refuse.ensures) refused_most,
-      λ cs es b q h. c.refuse.ensures ∙ row_off cs es (λ z. c.if-parts-n.true (p ∙ sym (list_count expression c.args.row.now h) ∙ z ∙ sym q)),
+      subst (AtMost 4194628) (sym REFL) refused_most,
+      λ cs es b q h. row_off cs es (λ z. c.if-parts-n.true (p ∙ sym (list_count expression c.args.row.now h) ∙ z ∙ sym q)),
     )
 
 pub first-at-requires : goal.first-at-requires

@@ -22,8 +22,8 @@ has_source-requires c = c.requires.0
 
 pub returns-then-not-has_source : goal.returns-then-not-has_source
 returns-then-not-has_source c = (
-  subst (AtMost 300000000000) (sym c.refuse.ensures) refused_most,
-  λ cs v k q h. c.refuse.ensures ∙ sized_refused (list_of 4 (list_of 4 value)) (rows_none cs v.source (failed (c.has_source.ensures v h) (ap not c.if-not-has_source.true))),
+  subst (AtMost 300000000000) (sym REFL) refused_most,
+  λ cs v k q h. sized_refused (list_of 4 (list_of 4 value)) (rows_none cs v.source (failed (c.has_source.ensures v h) (ap not c.if-not-has_source.true))),
 )
 
 pub source_of-s-requires : goal.source_of-s-requires
@@ -34,10 +34,10 @@ has_clauses-requires c = is_held {f = source} (the (goal.at.has_clauses-requires
 
 pub returns-then-has_clauses : goal.returns-then-has_clauses
 returns-then-has_clauses c = (
-  subst (AtMost 300000000000) (sym c.refuse-then-has_clauses.ensures) refused_most,
+  subst (AtMost 300000000000) (sym REFL) refused_most,
   λ cs v k q h.
       let s = the (goal.at.returns-then-has_clauses c).After-source_of-s in
-      c.refuse-then-has_clauses.ensures ∙ sized_refused (list_of 4 (list_of 4 value)) (rows_clauses cs (s.whole v h) (sym (c.has_clauses.ensures s.value s.part) ∙ c.if-has_clauses.true)),
+      sized_refused (list_of 4 (list_of 4 value)) (rows_clauses cs (s.whole v h) (sym (c.has_clauses.ensures s.value s.part) ∙ c.if-has_clauses.true)),
 )
 
 pub body_of-requires : goal.body_of-requires

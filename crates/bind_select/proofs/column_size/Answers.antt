@@ -31,8 +31,8 @@ returns-in-Is c =
 
 pub returns-in-Nothing : goal.returns-in-Nothing
 returns-in-Nothing c = record {
-  few = at_most_off 4296802275 c.refuse.ensures;
+  few = at_most_off 4296802275 REFL;
   told = λ v x hv hx.
       let a = c.args in
-      c.refuse.ensures ∙ added_refused (item_unknown v x (called_unknown a.t.now a.n.now c.column_called.ensures c.in-Nothing.is v x hv hx));
+      added_refused (item_unknown v x (called_unknown a.t.now a.n.now c.column_called.ensures c.in-Nothing.is v x hv hx));
 }

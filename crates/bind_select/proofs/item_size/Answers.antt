@@ -20,7 +20,7 @@ pub item_code-code-requires : goal.item_code-code-requires
 item_code-code-requires c = c.requires.1.is
 
 pub returns-then-code-eq0 : goal.returns-then-code-eq0
-returns-then-code-eq0 c = record { few = at_most_off 4296802275 c.refuse.ensures; told = λ v x hv h. c.refuse.ensures ∙ added_refused (item_other v x (sym (c.item_code-code.ensures x h) ∙ c.if-code-eq0.true)) }
+returns-then-code-eq0 c = record { few = at_most_off 4296802275 REFL; told = λ v x hv h. added_refused (item_other v x (sym (c.item_code-code.ensures x h) ∙ c.if-code-eq0.true)) }
 
 pub columns-requires : goal.columns-requires
 columns-requires c = c.requires.0

@@ -15,10 +15,9 @@ use Rattle.bind_update.proofs.assign_size.Goals as goal
 
 pub returns-then-in_key : goal.returns-then-in_key
 returns-then-in_key c = record {
-  few = at_most_off 4294967500 c.refuse.ensures;
+  few = at_most_off 4294967500 REFL;
   told = λ v x k hv hx hc.
-      c.refuse.ensures
-      ∙ sized_refused layout.assignment (assign_key v k x (ap (in_key v) (sym hc.id) ∙ sym (c.in_key.ensures v hv) ∙ c.if-in_key.true));
+      sized_refused layout.assignment (assign_key v k x (ap (in_key v) (sym hc.id) ∙ sym (c.in_key.ensures v hv) ∙ c.if-in_key.true));
 }
 
 pub column_ref_len-requires : goal.column_ref_len-requires

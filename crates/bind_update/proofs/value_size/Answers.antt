@@ -31,11 +31,11 @@ returns-in-Fine c =
 
 pub returns-in-Flaw : goal.returns-in-Flaw
 returns-in-Flaw c = record {
-  few = at_most_off 4294967295 c.refuse.ensures;
+  few = at_most_off 4294967295 REFL;
   told = λ v x k hv hx ty null.
       let m = sized_is _ _ hv hx c.expression_size.ensures c.in-Is.is in
       let f : fit (mark_of m.0) k ≡ flaw _ = ap (λ (z : Mark). fit z k) m.2 ∙ fit_flaw (c.expression_fit.ensures k ty null) c.in-Flaw.is in
-      c.refuse.ensures ∙ steps.sized_refused bound_expression (value_flaw v k x m.1 f);
+      steps.sized_refused bound_expression (value_flaw v k x m.1 f);
 }
 
 pub returns-in-Refused : goal.returns-in-Refused
