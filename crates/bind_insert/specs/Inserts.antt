@@ -17,7 +17,7 @@ use Rattle.rules.specs.Analyze.{insert_columns, insert_body, analyze_insert}
 use Rattle.image_bound.specs.Columns.{bound_table_ref, bound_column_ref}
 use Rattle.image_bound.specs.Layout.{bound_statement}
 use Rattle.image_bound.specs.Sizes.{insert_length}
-use Rattle.std.specs.Prelude.{Ok, Err}
+use Rattle.std.specs.Prelude.{Ok}
 use Rattle.bind_table.specs.Told.{sized}
 use Rattle.bind_table.specs.Steps.{classed, step_on, step_off, test_on, test_off, steps_joined, sized_given}
 use Rattle.bind_table.specs.Tables.{named_table, named_joined}

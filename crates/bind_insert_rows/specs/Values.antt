@@ -19,12 +19,10 @@ use Rattle.rules.specs.Analyze.{insert_literal, value_fit, insert_values, insert
 use Rattle.bind_fits.specs.declared.Fit.{Fit}
 use Rattle.bind_fits.specs.declared.Fit.TheVariants.{Fine, Flaw}
 use Rattle.bind_fits.specs.Told.{told_fit}
-use Rattle.std.specs.Prelude.{Result}
-use Rattle.std.specs.Prelude.{Ok, Err}
+use Rattle.std.specs.Prelude.{Result, Ok, Err, IfOk}
 use Rattle.bind_table.specs.Told.{sized}
 use Rattle.bind_table.specs.Steps.{classed, step_on, step_off, test_on, test_off, judged_on, judged_off, sized_given, sized_refused, sized_is, sized_off, sized_as}
 use Rattle.bind_insert_columns.specs.Coded.{column_code, Coded, coded_at}
-use Rattle.bind_insert_columns.specs.Small.{AtMost, is_most, refused_most}
 use Rattle.bind_insert_columns.specs.Grown.{Grown, grown_none, grown_more, grown_refused, grown_given, each_on, each_off, each_none}
 
 -- r is how long the image is of what F makes of the value that s holds, for n columns whose bytes the array begins with
@@ -40,9 +38,9 @@ abbrev pub fit_told : Fit → ℕ → Result ℕ Refusal
 fit_told Fine n = Ok n
 fit_told (Flaw k) n = Err (classed k)
 
-pub fit_most : (f : Fit) {n k : ℕ} → n ≤ k → AtMost k (fit_told f n)
-fit_most Fine h = is_most h
-fit_most (Flaw j) h = refused_most
+pub fit_most : (f : Fit) {n k : ℕ} → n ≤ k → IfOk (fit_told f n) (λ m. m ≤ k)
+fit_most Fine h = h
+fit_most (Flaw j) h = tt
 
 module _ (x : Expr) (c : BoundColumnRef) where
   pub value_told : {v : Value} {n : ℕ} → insert_literal x ≡ given v → n ≡ length (value.write v) → fit_told (told_fit (value_fit v c)) n ≡ sized value (insert_value x c)

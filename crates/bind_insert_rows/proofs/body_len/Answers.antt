@@ -12,7 +12,6 @@ use Rattle.image_insert.specs.Held.{is_values}
 use Rattle.rules.specs.Analyze.{insert_body}
 use Rattle.bind_table.specs.Steps.{sized_refused, sized_as}
 use Rattle.bind_insert_rows.specs.Sources.{rows_in, body_other, body_row, body_empty, body_rows_lem}
-use Rattle.bind_insert_columns.specs.Small.{AtMost, refused_most}
 use borrow.Author.Rules.{rules}
 use Rattle.bind_insert_rows.proofs.body_len.Goals.{Else-not-is_values}
 use Rattle.bind_insert_rows.proofs.body_len.Goals.{Else-explicit_row}
@@ -35,7 +34,7 @@ is_values-requires c = c.requires.0
 
 pub returns-then-not-is_values : goal.returns-then-not-is_values
 returns-then-not-is_values c = (
-  subst (AtMost 300000000000) (sym REFL) refused_most,
+  tt,
   λ cs v k q h. sized_refused (list_of 4 (list_of 4 value)) (body_other cs v (failed (c.is_values.ensures v h) (ap not c.if-not-is_values.true))),
 )
 
@@ -44,7 +43,7 @@ explicit_row-requires c = shows (goal.at.explicit_row-requires c).Else-not-is_va
 
 pub returns-then-explicit_row : goal.returns-then-explicit_row
 returns-then-explicit_row c = (
-  subst (AtMost 300000000000) (sym REFL) refused_most,
+  tt,
   λ cs v k q h.
       let w = rows_in (shows (goal.at.returns-then-explicit_row c).Else-not-is_values) in
       sized_refused (list_of 4 (list_of 4 value)) (ap (insert_body cs) (held_once source_body h w.whole) ∙ body_row cs w.rows (sym (c.explicit_row.ensures w.explicit w.rows w.whole) ∙ c.if-explicit_row.true)),
@@ -58,7 +57,7 @@ parts-requires c = (search rules, list_bundle (list_of 2 expression) (is_held {f
 
 pub returns-then-parts-eq0 : goal.returns-then-parts-eq0
 returns-then-parts-eq0 c = (
-  subst (AtMost 300000000000) (sym REFL) refused_most,
+  tt,
   λ cs v k q h.
       let w = rows_in (shows (goal.at.returns-then-parts-eq0 c).Else-not-is_values) in
       let e : length w.rows ≡ 0 = list_count (list_of 2 expression) c.rows_of-rows.result.now (held_rows (goal.at.returns-then-parts-eq0 c).After-rows_of-rows) ∙ sym c.parts.ensures ∙ c.if-parts-eq0.true in
