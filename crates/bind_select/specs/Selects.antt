@@ -12,8 +12,7 @@ use Rattle.image_bound.specs.Expression.{bound_expression, bound_expression_not_
 use Rattle.image_bound.specs.Layout.{bound_statement}
 use Rattle.image_bound.specs.Sizes.{select_length}
 use Rattle.image_select.specs.Held.{item_no, from_no, body_no}
-use Rattle.std.specs.Prelude.{Result}
-use Rattle.std.specs.Prelude.{Ok, Err}
+use Rattle.std.specs.Prelude.{Result, Ok, Err}
 use Rattle.bind_table.specs.Steps.{classed, step_on, step_off, steps_joined, test_on, test_off, found_on, found_off}
 use Rattle.bind_table.specs.Told.{told, sized}
 use Rattle.rules.specs.declared.Class.TheVariants.{SchemaMismatch, UnsupportedSql}
