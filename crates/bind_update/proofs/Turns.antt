@@ -12,8 +12,7 @@ use Rattle.bind_repeats.specs.declared.Repeat.{Repeat}
 use Rattle.bind_repeats.specs.declared.Of.TheVariants as of
 use Rattle.bind_repeats.specs.Repeats.{is_at, first_repeated}
 use Rattle.bind_repeats.specs.Entries.{FindsRepeat}
-use Rattle.std.specs.Prelude.{Result}
-use Rattle.std.specs.Prelude.{Ok, Err}
+use Rattle.std.specs.Prelude.{Result, Ok, Err}
 use Rattle.bind_table.specs.Steps.{sized_given, sized_is, sized_off}
 use Rattle.bind_table.specs.Told.{sized}
 use Rattle.rules.specs.declared.Refusal.{Refusal}
