@@ -21,8 +21,8 @@ use Rattle.rules.specs.Analyze.{OptionState, no_options, option_of, options, sai
 use Rattle.image_parts.specs.Layout.{column_type_no, option_kind_no, option}
 use Rattle.bind_table.specs.Steps.{step_on, step_off, test_on, test_off}
 use Rattle.bind_create.specs.declared.Key.{Key}
-use Rattle.bind_create.specs.declared.Keyed.{Keyed}
-use Rattle.bind_create.specs.declared.Keyed.TheVariants as keyed
+use Rattle.std.specs.Prelude.{Result}
+use Rattle.std.specs.Prelude.{Ok, Err}
 use Rattle.bind_create.specs.Defined.{one_option, options_next, options_done, finish_column, judge_column, typed}
 use Rattle.bind_create.specs.Columns.{Inlined}
 use Rattle.bind_create.specs.Keys.{has_key, inlined}
@@ -142,20 +142,20 @@ module _ (repeated second : Bool) (c : ColumnDefinition) where
       judge_finish e = test_on _ _ a ∙ test_on _ _ b ∙ step_on (λ o. finish_column second o c) e
 
 -- `repeated` said in another way
-pub judged_at : (i : ℕ) (key : Key) {r : Keyed} {a b : Bool} (c : ColumnDefinition) → r ≡ inlined i key (judge_column a (has_key key) c) → a ≡ b → r ≡ inlined i key (judge_column b (has_key key) c)
+pub judged_at : (i : ℕ) (key : Key) {r : Result Key Class} {a b : Bool} (c : ColumnDefinition) → r ≡ inlined i key (judge_column a (has_key key) c) → a ≡ b → r ≡ inlined i key (judge_column b (has_key key) c)
 judged_at i key c e h = e ∙ ap (λ (x : Bool). inlined i key (judge_column x (has_key key) c)) h
 
 -- what was judged, by what the code makes of it
-pub inlined_off : (i : ℕ) (key : Key) {r : Keyed} {k : Class} (a : Answer Bool) → r ≡ inlined i key a → r ≡ keyed.Refused k → a ≡ refuse k
+pub inlined_off : (i : ℕ) (key : Key) {r : Result Key Class} {k : Class} (a : Answer Bool) → r ≡ inlined i key a → r ≡ Err k → a ≡ refuse k
 inlined_off i key {r} {k} a e h = go a (sym h ∙ e)
   where
-    go : (a : Answer Bool) → keyed.Refused k ≡ inlined i key a → a ≡ refuse k
+    go : (a : Answer Bool) → Err k ≡ inlined i key a → a ≡ refuse k
     go (given b) e = let z : ◌≡◌ {A = ℕ} 0 1 = cc in absurd (omega arith)
     go (refused q) e = let z : q.class ≡ k = cc in ap (λ (k : Class). refuse k) z
 
-pub inlined_on : {i : ℕ} {key : Key} {r : Keyed} {k : Key} (a : Answer Bool) → r ≡ inlined i key a → r ≡ keyed.Is k → Inlined i key a k
+pub inlined_on : {i : ℕ} {key : Key} {r : Result Key Class} {k : Key} (a : Answer Bool) → r ≡ inlined i key a → r ≡ Ok k → Inlined i key a k
 inlined_on {i} {key} {r} {k} a e h = go a (sym h ∙ e)
   where
-    go : (a : Answer Bool) → keyed.Is k ≡ inlined i key a → Inlined i key a k
+    go : (a : Answer Bool) → Ok k ≡ inlined i key a → Inlined i key a k
     go (given b) e = record { yes = b; gives = refl; is = cc }
     go (refused q) e = let z : ◌≡◌ {A = ℕ} 0 1 = cc in absurd (omega arith)

@@ -19,8 +19,8 @@ use Rattle.rules.specs.Statements.{Name, ColumnDefinition, Constraint, primary_k
 use Rattle.rules.specs.Analyze.{register_key, constraint, constraints}
 use Rattle.bind_create.specs.declared.Key.{Key}
 use Rattle.bind_create.specs.declared.Key.TheVariants.{Constrained}
-use Rattle.bind_create.specs.declared.Keyed.{Keyed}
-use Rattle.bind_create.specs.declared.Keyed.TheVariants as keyed
+use Rattle.std.specs.Prelude.{Result}
+use Rattle.std.specs.Prelude.{Ok, Err}
 use Rattle.bind_create.specs.Keys.{has_key, constrained, KeyAt, key_there, ConstraintsRead}
 
 -- ---- one constraint
@@ -34,7 +34,7 @@ pub as_key : (v : Constraint) → is_key v ≡ true → IsKey v
 as_key (primary_key m ns) e = record { marked = m; names = ns; is = refl }
 as_key other_constraint e = absurd (false≢true e)
 
-pub not_key : (j : ℕ) (has : Bool) (v : Constraint) → is_key v ≡ false → constrained j has v ≡ keyed.Refused UnsupportedSql
+pub not_key : (j : ℕ) (has : Bool) (v : Constraint) → is_key v ≡ false → constrained j has v ≡ Err UnsupportedSql
 not_key j has (primary_key m ns) e = absurd (true≢false e)
 not_key j has other_constraint e = refl
 
@@ -47,30 +47,30 @@ not_empty [] h = absurd (h refl)
 not_empty (n ∷ ns) h = refl
 
 module _ (j : ℕ) (has : Bool) {v : Constraint} (k : IsKey v) where
-  pub key_marked : k.marked ≡ true → constrained j has v ≡ keyed.Refused UnsupportedSql
+  pub key_marked : k.marked ≡ true → constrained j has v ≡ Err UnsupportedSql
   key_marked e = ap (constrained j has) k.is ∙ ap (λ (m : Bool). constrained j has (primary_key m k.names)) e
 
   module _ (a : k.marked ≡ false) where
-    unmarked : constrained j has v ≡ cond (is_empty k.names) (keyed.Refused ConstraintViolation) (cond has (keyed.Refused ConstraintViolation) (keyed.Is (Constrained j)))
+    unmarked : constrained j has v ≡ cond (is_empty k.names) (Err ConstraintViolation) (cond has (Err ConstraintViolation) (Ok (Constrained j)))
     unmarked = ap (constrained j has) k.is ∙ ap (λ (m : Bool). constrained j has (primary_key m k.names)) a
 
-    pub key_empty : is_empty k.names ≡ true → constrained j has v ≡ keyed.Refused ConstraintViolation
-    key_empty e = unmarked ∙ ap (λ (b : Bool). cond b (keyed.Refused ConstraintViolation) (cond has (keyed.Refused ConstraintViolation) (keyed.Is (Constrained j)))) e
+    pub key_empty : is_empty k.names ≡ true → constrained j has v ≡ Err ConstraintViolation
+    key_empty e = unmarked ∙ ap (λ (b : Bool). cond b (Err ConstraintViolation) (cond has (Err ConstraintViolation) (Ok (Constrained j)))) e
 
     module _ (b : is_empty k.names ≡ false) where
-      full : constrained j has v ≡ cond has (keyed.Refused ConstraintViolation) (keyed.Is (Constrained j))
-      full = unmarked ∙ ap (λ (b : Bool). cond b (keyed.Refused ConstraintViolation) (cond has (keyed.Refused ConstraintViolation) (keyed.Is (Constrained j)))) b
+      full : constrained j has v ≡ cond has (Err ConstraintViolation) (Ok (Constrained j))
+      full = unmarked ∙ ap (λ (b : Bool). cond b (Err ConstraintViolation) (cond has (Err ConstraintViolation) (Ok (Constrained j)))) b
 
-      pub key_second : has ≡ true → constrained j has v ≡ keyed.Refused ConstraintViolation
-      key_second e = full ∙ ap (λ (b : Bool). cond b (keyed.Refused ConstraintViolation) (keyed.Is (Constrained j))) e
+      pub key_second : has ≡ true → constrained j has v ≡ Err ConstraintViolation
+      key_second e = full ∙ ap (λ (b : Bool). cond b (Err ConstraintViolation) (Ok (Constrained j))) e
 
-      pub key_first : has ≡ false → constrained j has v ≡ keyed.Is (Constrained j)
-      key_first e = full ∙ ap (λ (b : Bool). cond b (keyed.Refused ConstraintViolation) (keyed.Is (Constrained j))) e
+      pub key_first : has ≡ false → constrained j has v ≡ Ok (Constrained j)
+      key_first e = full ∙ ap (λ (b : Bool). cond b (Err ConstraintViolation) (Ok (Constrained j))) e
 
 -- ---- what the rules make of it
 
 -- a key so far is refused a second one
-pub constrained_off : (j : ℕ) (names : Option (List Text)) (v : Constraint) {k : Class} → constrained j (is_some names) v ≡ keyed.Refused k → constraint names v ≡ refuse k
+pub constrained_off : (j : ℕ) (names : Option (List Text)) (v : Constraint) {k : Class} → constrained j (is_some names) v ≡ Err k → constraint names v ≡ refuse k
 unfolding constraint register_key
 constrained_off j names other_constraint e = cc
 constrained_off j names (primary_key true ns) e = cc
@@ -85,7 +85,7 @@ pub record Registered (j : ℕ) (names : Option (List Text)) (v : Constraint) (k
   pub gives : constraint names v ≡ given (some (map canonical list))
   pub here : key ≡ Constrained j
 
-pub constrained_on : (j : ℕ) (names : Option (List Text)) (v : Constraint) {key : Key} → constrained j (is_some names) v ≡ keyed.Is key → Registered j names v key
+pub constrained_on : (j : ℕ) (names : Option (List Text)) (v : Constraint) {key : Key} → constrained j (is_some names) v ≡ Ok key → Registered j names v key
 unfolding constraint register_key
 constrained_on j names other_constraint e = let z : ◌≡◌ {A = ℕ} 0 1 = cc in absurd (omega arith)
 constrained_on j names (primary_key true ns) e = let z : ◌≡◌ {A = ℕ} 0 1 = cc in absurd (omega arith)
@@ -105,7 +105,7 @@ pub constraints_none : {cs : List ColumnDefinition} {ds : List Constraint} {key 
 constraints_none {names = names} k = record { names = names; is = refl; named = k }
 
 module _ {cs : List ColumnDefinition} {ds : List Constraint} {before : Option (List Text)} {key : Key} {j : ℕ} (t : ConstraintsTo cs ds before key j)
-    {v : Constraint} {m : List Constraint} (d : drop j ds ≡ v ∷ m) {r : Keyed} (e : r ≡ constrained j (has_key key) v) where
+    {v : Constraint} {m : List Constraint} (d : drop j ds ≡ v ∷ m) {r : Result Key Class} (e : r ≡ constrained j (has_key key) v) where
   constrained_is : r ≡ constrained j (is_some t.names) v
   constrained_is = e ∙ ap (λ (b : Bool). constrained j b v) (sym (key_there t.named))
 
@@ -113,10 +113,10 @@ module _ {cs : List ColumnDefinition} {ds : List Constraint} {before : Option (L
   unfolding constraints
   one_left = t.is ∙ ap (constraints t.names) d
 
-  pub constraints_stop : {k : Class} → r ≡ keyed.Refused k → constraints before ds ≡ refuse k
+  pub constraints_stop : {k : Class} → r ≡ Err k → constraints before ds ≡ refuse k
   constraints_stop q = one_left ∙ step_off (λ k. constraints k m) (constrained_off j t.names v (sym constrained_is ∙ q))
 
-  pub constraints_on : {k : Key} → r ≡ keyed.Is k → ConstraintsTo cs ds before k (j + 1)
+  pub constraints_on : {k : Key} → r ≡ Ok k → ConstraintsTo cs ds before k (j + 1)
   constraints_on {k} q =
       let g = constrained_on j t.names v (sym constrained_is ∙ q) in
       record {

@@ -15,8 +15,8 @@ use Rattle.bind_repeats.specs.declared.Of.TheVariants as of
 use Rattle.bind_repeats.specs.declared.Repeat.{Repeat}
 use Rattle.bind_repeats.specs.Repeats.{first_repeated}
 use Rattle.bind_repeats.specs.Entries.{entry, FindsRepeat}
-use Rattle.bind_table.specs.declared.Measured.{Measured}
-use Rattle.bind_table.specs.declared.Measured.TheVariants as measured
+use Rattle.std.specs.Prelude.{Result}
+use Rattle.std.specs.Prelude.{Ok, Err}
 use Rattle.bind_table.specs.Told.{sized}
 use Rattle.bind_table.specs.Steps.{classed, step_on, step_off, test_on, test_off, sized_given, sized_refused}
 use Rattle.bind_table.specs.Short.{short_plain}
@@ -36,8 +36,8 @@ use Rattle.rules.specs.Analyze.{define_columns, key_ids, analyze_create_table}
 use Rattle.image_parts.specs.Layout.{column_definition, create}
 use Rattle.bind_create.specs.declared.Key.{Key}
 use Rattle.bind_create.specs.declared.Key.TheVariants.{Nowhere, Column, Constrained}
-use Rattle.bind_create.specs.declared.Keyed.{Keyed}
-use Rattle.bind_create.specs.declared.Keyed.TheVariants as keyed
+use Rattle.std.specs.Prelude.{Result}
+use Rattle.std.specs.Prelude.{Ok, Err}
 use Rattle.bind_create.specs.Defined.{schemas, definition, key_of, created, key_table, key_joined, define_table, create_steps, room_for, created_size, keys_length}
 use Rattle.bind_create.specs.Keys.{KeyAt, NamedAt, ByColumn, key_inline, ColumnsRead, ReadsConstraints, read_of, read_key, ReadsKey, read_joined, counted}
 use Rattle.bind_create.specs.Within.{PlaceIn, KeyIn, names_few}
@@ -46,16 +46,16 @@ use Rattle.bind_create.proofs.Names.{find_there, one_name}
 -- ---- columns, then constraints
 
 module _ (v : CreateTable) where
-  pub read_both : {key : Key} (r : Keyed) → ColumnsRead v.columns key
+  pub read_both : {key : Key} (r : Result Key Class) → ColumnsRead v.columns key
       → ((names : Option (List Text)) → KeyAt v.columns v.constraints key names → ReadsConstraints v.columns v.constraints names r) → ReadsKey v r
-  read_both (keyed.Is k) c f =
+  read_both (Ok k) c f =
       let g = f c.names (key_inline v.constraints c.at) in
       record {
         names = g.names;
         gives = step_on _ c.gives ∙ step_on (λ names. given (read_of (schemas 0 v.columns) names)) g.gives;
         at = g.at;
       }
-  read_both (keyed.Refused k) c f =
+  read_both (Err k) c f =
       step_on _ c.gives ∙ step_off (λ names. given (read_of (schemas 0 v.columns) names)) (f c.names (key_inline v.constraints c.at))
 
   pub read_columns_off : {k : Class} → define_columns (definition [] none) v.columns ≡ refuse k → read_key v ≡ refuse k
@@ -73,10 +73,10 @@ place_in p f g = record { is = λ v h. f v.columns (g v h) }
 -- ---- how many ids
 
 module _ (cs : List ColumnDefinition) {names : Option (List Text)} where
-  pub count_none : names ≡ none → counted (key_of (schemas 0 cs) names) ≡ measured.Refused (classed ConstraintViolation)
+  pub count_none : names ≡ none → counted (key_of (schemas 0 cs) names) ≡ Err (classed ConstraintViolation)
   count_none e = ap (λ (o : Option (List Text)). counted (key_of (schemas 0 cs) o)) e
 
-  pub count_column : {i : ℕ} → ByColumn cs i names → counted (key_of (schemas 0 cs) names) ≡ measured.Is 1
+  pub count_column : {i : ℕ} → ByColumn cs i names → counted (key_of (schemas 0 cs) names) ≡ Ok 1
   count_column {i} k =
       let f = find_there 0 i cs k.here in
       ap (λ (o : Option (List Text)). counted (key_of (schemas 0 cs) o)) k.is ∙ ap counted (one_name (schemas 0 cs) (canonical k.column.name) f.1)
@@ -90,17 +90,17 @@ pub record Counted (a : Answer (List ColumnId)) (n : ℕ) : Type 0 where
   pub gives : a ≡ given ids
   pub many : n ≡ length ids
 
-pub counted_is : (a : Answer (List ColumnId)) {m : Measured} {n : ℕ} → m ≡ counted a → m ≡ measured.Is n → Counted a n
+pub counted_is : (a : Answer (List ColumnId)) {m : Result ℕ Refusal} {n : ℕ} → m ≡ counted a → m ≡ Ok n → Counted a n
 counted_is a {m} {n} e h = go a (sym h ∙ e)
   where
-    go : (a : Answer (List ColumnId)) → measured.Is n ≡ counted a → Counted a n
+    go : (a : Answer (List ColumnId)) → Ok n ≡ counted a → Counted a n
     go (given ids) e = record { ids = ids; gives = refl; many = cc }
     go (refused r) e = let z : ◌≡◌ {A = ℕ} 0 1 = cc in absurd (omega arith)
 
-pub counted_off : (a : Answer (List ColumnId)) {m : Measured} {r : Refusal} → m ≡ counted a → m ≡ measured.Refused r → a ≡ refused r
+pub counted_off : (a : Answer (List ColumnId)) {m : Result ℕ Refusal} {r : Refusal} → m ≡ counted a → m ≡ Err r → a ≡ refused r
 counted_off a {m} {r} e h = go a (sym h ∙ e)
   where
-    go : (a : Answer (List ColumnId)) → measured.Refused r ≡ counted a → a ≡ refused r
+    go : (a : Answer (List ColumnId)) → Err r ≡ counted a → a ≡ refused r
     go (given ids) e = let z : ◌≡◌ {A = ℕ} 0 1 = cc in absurd (omega arith)
     go (refused q) e = cc
 
@@ -124,12 +124,12 @@ key_few v w {key} {names} k {ids} e =
 -- ---- how long it is
 
 module _ (t : Text) (cs : List ColumnDefinition) (names : Option (List Text)) where
-  pub keyed_given : {n m : ℕ} → Counted (key_of (schemas 0 cs) names) n → m ≡ 17 + length t + room_for cs + (4 + 12 * n) → measured.Is m ≡ sized bound_statement (key_table t (schemas 0 cs) names)
+  pub keyed_given : {n m : ℕ} → Counted (key_of (schemas 0 cs) names) n → m ≡ 17 + length t + room_for cs + (4 + 12 * n) → Ok m ≡ sized bound_statement (key_table t (schemas 0 cs) names)
   keyed_given c e =
       sized_given bound_statement (key_joined t (schemas 0 cs) names ∙ step_on (λ ids. given (created t (schemas 0 cs) ids)) c.gives)
       (e ∙ ap (λ (n : ℕ). 17 + length t + room_for cs + (4 + 12 * n)) c.many ∙ sym (created_size t cs c.ids))
 
-  pub keyed_off : {r : Refusal} → key_of (schemas 0 cs) names ≡ refused r → measured.Refused r ≡ sized bound_statement (key_table t (schemas 0 cs) names)
+  pub keyed_off : {r : Refusal} → key_of (schemas 0 cs) names ≡ refused r → Err r ≡ sized bound_statement (key_table t (schemas 0 cs) names)
   keyed_off e = sized_refused bound_statement (key_joined t (schemas 0 cs) names ∙ step_off (λ ids. given (created t (schemas 0 cs) ids)) e)
 
 -- ---- behind the name
@@ -156,7 +156,7 @@ pub columns_there : (cs : List ColumnDefinition) → (length cs ≡ 0 → ⊥) �
 columns_there [] h = absurd (h refl)
 columns_there (c ∷ cs) h = refl
 
-pub key_in : {s : List ℕ} {r : Keyed} {key : Key} → ((v : CreateTable) → Holds create s v → ReadsKey v r) → r ≡ keyed.Is key → KeyIn s key
+pub key_in : {s : List ℕ} {r : Result Key Class} {key : Key} → ((v : CreateTable) → Holds create s v → ReadsKey v r) → r ≡ Ok key → KeyIn s key
 key_in f e = record { at = λ v h. let k = subst (ReadsKey v) e (f v h) in (k.names, k.at) }
 
 -- ---- the whole

@@ -3,6 +3,8 @@
 use Rattle.std.specs.Prelude.{◌≡◌, refl, Bool, true, false, cond, List, [], ◌∷◌, map, ℕ, zero, suc, length, drop}
 use Rattle.std.proofs.Common.{ap, arith}
 use Rattle.std.proofs.Math.Option.{Option, none, some}
+use Rattle.rules.specs.declared.Refusal.{Refusal}
+use Rattle.rules.specs.declared.Class.{Class}
 use Rattle.rules.specs.declared.Class.TheVariants.{ConstraintViolation, UnsupportedSql}
 use Rattle.rules.specs.Lists.{Text, is_some, is_empty, find}
 use Rattle.rules.specs.Answers.{Answer, given, refused, refuse, ◌>>=◌}
@@ -11,15 +13,14 @@ use Rattle.rules.specs.Names.{canonical}
 use Rattle.rules.specs.Statements.{Name, ColumnDefinition, Constraint, primary_key, other_constraint, CreateTable}
 use Rattle.rules.specs.Analyze.{Definition, define_columns, constraints}
 use Rattle.rules.proofs.Theorems.Answered.{mapped}
-use Rattle.bind_table.specs.declared.Measured.{Measured}
+use Rattle.std.specs.Prelude.{Result}
 use Rattle.bind_table.specs.Told.{told}
 use Rattle.bind_create.specs.Defined.{schema, schemas, definition}
-use Rattle.bind_create.specs.declared.Place.{Place}
-use Rattle.bind_create.specs.declared.Place.TheVariants as place
+use Rattle.std.specs.Prelude as rust
 use Rattle.bind_create.specs.declared.Key.{Key}
 use Rattle.bind_create.specs.declared.Key.TheVariants.{Nowhere, Column, Constrained}
-use Rattle.bind_create.specs.declared.Keyed.{Keyed}
-use Rattle.bind_create.specs.declared.Keyed.TheVariants as keyed
+use Rattle.std.specs.Prelude.{Result}
+use Rattle.std.specs.Prelude.{Ok, Err}
 
 abbrev pub has_key : Key → Bool
 has_key Nowhere = false
@@ -27,15 +28,15 @@ has_key (Column i) = true
 has_key (Constrained j) = true
 
 -- what an answer whether column i is the key makes of the key so far
-abbrev pub inlined : ℕ → Key → Answer Bool → Keyed
-inlined i key (given k) = keyed.Is (cond k (Column i) key)
-inlined i key (refused r) = keyed.Refused r.class
+abbrev pub inlined : ℕ → Key → Answer Bool → Result Key Class
+inlined i key (given k) = Ok (cond k (Column i) key)
+inlined i key (refused r) = Err r.class
 
 -- what constraint j makes of it, where `has` says whether there is a key already
-abbrev pub constrained : ℕ → Bool → Constraint → Keyed
+abbrev pub constrained : ℕ → Bool → Constraint → Result Key Class
 constrained j has (primary_key marked names) =
-    cond marked (keyed.Refused UnsupportedSql) (cond (is_empty names) (keyed.Refused ConstraintViolation) (cond has (keyed.Refused ConstraintViolation) (keyed.Is (Constrained j))))
-constrained j has other_constraint = keyed.Refused UnsupportedSql
+    cond marked (Err UnsupportedSql) (cond (is_empty names) (Err ConstraintViolation) (cond has (Err ConstraintViolation) (Ok (Constrained j))))
+constrained j has other_constraint = Err UnsupportedSql
 
 -- the option of column i
 pub record ByColumn (cs : List ColumnDefinition) (i : ℕ) (names : Option (List Text)) : Type 0 where
@@ -87,9 +88,9 @@ pub record ColumnsRead (cs : List ColumnDefinition) (key : Key) : Type 0 where
   pub gives : define_columns (definition [] none) cs ≡ given (definition (schemas 0 cs) names)
   pub at : KeyAt cs [] key names
 
-abbrev pub ReadsColumns : List ColumnDefinition → Keyed → Type 0
-ReadsColumns cs (keyed.Is key) = ColumnsRead cs key
-ReadsColumns cs (keyed.Refused k) = define_columns (definition [] none) cs ≡ refuse k
+abbrev pub ReadsColumns : List ColumnDefinition → Result Key Class → Type 0
+ReadsColumns cs (Ok key) = ColumnsRead cs key
+ReadsColumns cs (Err k) = define_columns (definition [] none) cs ≡ refuse k
 
 -- the constraints are read too
 pub record ConstraintsRead (cs : List ColumnDefinition) (ds : List Constraint) (before : Option (List Text)) (key : Key) : Type 0 where
@@ -97,9 +98,9 @@ pub record ConstraintsRead (cs : List ColumnDefinition) (ds : List Constraint) (
   pub gives : constraints before ds ≡ given names
   pub at : KeyAt cs ds key names
 
-abbrev pub ReadsConstraints : List ColumnDefinition → List Constraint → Option (List Text) → Keyed → Type 0
-ReadsConstraints cs ds before (keyed.Is key) = ConstraintsRead cs ds before key
-ReadsConstraints cs ds before (keyed.Refused k) = constraints before ds ≡ refuse k
+abbrev pub ReadsConstraints : List ColumnDefinition → List Constraint → Option (List Text) → Result Key Class → Type 0
+ReadsConstraints cs ds before (Ok key) = ConstraintsRead cs ds before key
+ReadsConstraints cs ds before (Err k) = constraints before ds ≡ refuse k
 
 -- both: the columns that are made, and the names of the key
 abbrev pub Read : Type 0
@@ -119,9 +120,9 @@ pub record KeyRead (c : CreateTable) (key : Key) : Type 0 where
   pub gives : read_key c ≡ given (read_of (schemas 0 c.columns) names)
   pub at : KeyAt c.columns c.constraints key names
 
-abbrev pub ReadsKey : CreateTable → Keyed → Type 0
-ReadsKey c (keyed.Is key) = KeyRead c key
-ReadsKey c (keyed.Refused k) = read_key c ≡ refuse k
+abbrev pub ReadsKey : CreateTable → Result Key Class → Type 0
+ReadsKey c (Ok key) = KeyRead c key
+ReadsKey c (Err k) = read_key c ≡ refuse k
 
 pub read_joined : {B : Type 0} (c : CreateTable) (f : List ColumnSchema → Option (List Text) → Answer B)
     → (define_columns (definition [] none) c.columns >>= (λ d. constraints d.key c.constraints >>= (λ names. f d.columns names)))
@@ -139,7 +140,7 @@ read_joined c f = go (define_columns (definition [] none) c.columns)
     go (refused r) = refl
 
 -- the number of what an answer gives, or its refusal
-abbrev pub counted : {A : Type 0} → Answer (List A) → Measured
+abbrev pub counted : {A : Type 0} → Answer (List A) → Result ℕ Refusal
 counted a = told (mapped length a)
 
 -- the first column of a name
@@ -149,6 +150,6 @@ pub record ColumnFound (cs : List ColumnDefinition) (name : Text) (i : ℕ) : Ty
   pub here : drop i cs ≡ column ∷ rest
   pub is : find (column_named name) (schemas 0 cs) ≡ some (schema i column)
 
-abbrev pub FindsColumn : List ColumnDefinition → Text → Place → Type 0
-FindsColumn cs name (place.At i) = ColumnFound cs name i
-FindsColumn cs name place.Nowhere = find (column_named name) (schemas 0 cs) ≡ none
+abbrev pub FindsColumn : List ColumnDefinition → Text → rust.Option ℕ → Type 0
+FindsColumn cs name (rust.Some i) = ColumnFound cs name i
+FindsColumn cs name rust.None = find (column_named name) (schemas 0 cs) ≡ none

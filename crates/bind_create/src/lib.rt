@@ -24,11 +24,11 @@ ghost use Rattle.bind_create.specs.Within.{CreateWithin, FewColumns, FewNames, P
 
 use bind_options::OptionState;
 use bind_repeats::{Of, Repeat, are_alike_names, is_at};
-use bind_table::{Measured, new_table_name, refuse};
+use bind_table::new_table_name;
 use image_bound::bundles::ids_len;
 use image_bound::columns::column_schema_len;
 use image_parts::names::name_text;
-use rules::Class;
+use rules::{Class, Refusal};
 
 // Where the key stands: at a column, or in a constraint.
 #[derive(Clone, Copy)]
@@ -36,18 +36,6 @@ pub enum Key {
     Nowhere,
     Column(usize),
     Constrained(usize),
-}
-
-#[derive(Clone, Copy)]
-pub enum Keyed {
-    Is(Key),
-    Refused(Class),
-}
-
-#[derive(Clone, Copy)]
-pub enum Place {
-    Nowhere,
-    At(usize),
 }
 
 // ---- a column
@@ -92,14 +80,7 @@ pub fn take_options(s: &[u8]) -> Result<OptionState, Class>
 fn is_second(key: Key, is_key: bool) -> bool
     ensures { result ≡ (is_key && has_key key) }
 {
-    if !is_key {
-        return false;
-    }
-    match key {
-        Key::Nowhere => false,
-        Key::Column(_) => true,
-        Key::Constrained(_) => true,
-    }
+    is_key && !matches!(key, Key::Nowhere)
 }
 
 fn inline_key(key: Key, is_key: bool, i: usize) -> Key
@@ -112,41 +93,39 @@ fn inline_key(key: Key, is_key: bool, i: usize) -> Key
 }
 
 // What is tested of column i behind its options.
-fn finish_column(d: &[u8], i: usize, key: Key, state: OptionState) -> Keyed
+fn finish_column(d: &[u8], i: usize, key: Key, state: OptionState) -> Result<Key, Class>
     requires { Is column_definition d.now }
     ensures { (v : ColumnDefinition) → Holds column_definition d.now v → result ≡ inlined i key (finish_column (has_key key) (state_of state) v) }
 {
     if state.is_refused_key() {
-        return Keyed::Refused(Class::ConstraintViolation);
+        return Err(Class::ConstraintViolation);
     }
     let is_key = state.key;
     if is_second(key, is_key) {
-        return Keyed::Refused(Class::ConstraintViolation);
+        return Err(Class::ConstraintViolation);
     }
     if image_create::type_code(d) == 3 {
-        return Keyed::Refused(Class::UnsupportedSql);
+        return Err(Class::UnsupportedSql);
     }
-    Keyed::Is(inline_key(key, is_key, i))
+    Ok(inline_key(key, is_key, i))
 }
 
-fn define_column(d: &[u8], i: usize, key: Key, repeated: bool) -> Keyed
+fn define_column(d: &[u8], i: usize, key: Key, repeated: bool) -> Result<Key, Class>
     requires { Is column_definition d.now }
     ensures { (v : ColumnDefinition) → Holds column_definition d.now v → result ≡ inlined i key (judge_column repeated (has_key key) v) }
 {
     if image_create::collation(d) {
-        return Keyed::Refused(Class::UnsupportedSql);
+        return Err(Class::UnsupportedSql);
     }
     if repeated {
-        return Keyed::Refused(Class::ConstraintViolation);
+        return Err(Class::ConstraintViolation);
     }
-    match take_options(image_create::options(d)) {
-        Ok(state) => finish_column(d, i, key, state),
-        Err(class) => Keyed::Refused(class),
-    }
+    let state = take_options(image_create::options(d))?;
+    finish_column(d, i, key, state)
 }
 
 // The columns, of which the one at `place` is the first that repeats a name.
-fn define_columns(s: &[u8], place: Repeat) -> Keyed
+fn define_columns(s: &[u8], place: Repeat) -> Result<Key, Class>
     requires { Is (list_of 2 column_definition) s.now × FindsRepeat of.Columns s.now place }
     ensures { (cs : List ColumnDefinition) → Holds (list_of 2 column_definition) s.now cs → ReadsColumns cs result }
 {
@@ -156,42 +135,35 @@ fn define_columns(s: &[u8], place: Repeat) -> Keyed
     let mut i = 0;
     while i < columns {
         let end = bytes_bundle::next(s, 2, i, at);
-        match define_column(&s[at..end], i, key, is_at(place, i)) {
-            Keyed::Is(k) => {
-                key = k;
-            }
-            Keyed::Refused(class) => {
-                return Keyed::Refused(class);
-            }
-        }
+        key = define_column(&s[at..end], i, key, is_at(place, i))?;
         at = end;
         i += 1;
     }
-    Keyed::Is(key)
+    Ok(key)
 }
 
 // ---- constraints
 
-fn register(c: &[u8], j: usize, key: Key) -> Keyed
+fn register(c: &[u8], j: usize, key: Key) -> Result<Key, Class>
     requires { Is constraint c.now }
     ensures { (v : Constraint) → Holds constraint c.now v → result ≡ constrained j (has_key key) v }
 {
     if !image_create::is_primary_key(c) {
-        return Keyed::Refused(Class::UnsupportedSql);
+        return Err(Class::UnsupportedSql);
     }
     if image_create::key_marked(c) {
-        return Keyed::Refused(Class::UnsupportedSql);
+        return Err(Class::UnsupportedSql);
     }
     if bytes_bundle::parts(image_create::key_names(c), 2) == 0 {
-        return Keyed::Refused(Class::ConstraintViolation);
+        return Err(Class::ConstraintViolation);
     }
     if is_second(key, true) {
-        return Keyed::Refused(Class::ConstraintViolation);
+        return Err(Class::ConstraintViolation);
     }
-    Keyed::Is(Key::Constrained(j))
+    Ok(Key::Constrained(j))
 }
 
-fn register_all(s: &[u8], before: Key) -> Keyed
+fn register_all(s: &[u8], before: Key) -> Result<Key, Class>
     requires { Is (list_of 2 constraint) s.now }
     ensures { (cs : List ColumnDefinition) (ds : List Constraint) (names : Option (List Text)) → Holds (list_of 2 constraint) s.now ds
         → KeyAt cs ds before names → ReadsConstraints cs ds names result }
@@ -202,35 +174,26 @@ fn register_all(s: &[u8], before: Key) -> Keyed
     let mut j = 0;
     while j < n {
         let end = bytes_bundle::next(s, 2, j, at);
-        match register(&s[at..end], j, key) {
-            Keyed::Is(k) => {
-                key = k;
-            }
-            Keyed::Refused(class) => {
-                return Keyed::Refused(class);
-            }
-        }
+        key = register(&s[at..end], j, key)?;
         at = end;
         j += 1;
     }
-    Keyed::Is(key)
+    Ok(key)
 }
 
 // Where the key of a CREATE TABLE stands, once its columns and its constraints are read.
-pub fn find_key(s: &[u8], place: Repeat) -> Keyed
+pub fn find_key(s: &[u8], place: Repeat) -> Result<Key, Class>
     requires { Is create s.now × PlaceIn s.now place }
     ensures { (v : CreateTable) → Holds create s.now v → ReadsKey v result }
 {
-    match define_columns(image_create::columns(s), place) {
-        Keyed::Is(key) => register_all(image_create::constraints(s), key),
-        Keyed::Refused(class) => Keyed::Refused(class),
-    }
+    let key = define_columns(image_create::columns(s), place)?;
+    register_all(image_create::constraints(s), key)
 }
 
 // ---- the names of the key
 
 // The first column of a name.
-pub fn column_called(s: &[u8], n: &[u8]) -> Place
+pub fn column_called(s: &[u8], n: &[u8]) -> Option<usize>
     requires { FewColumns s.now × ShortIn name some n.now }
     ensures { (cs : List ColumnDefinition) (w : Name) → Holds (list_of 2 column_definition) s.now cs → Holds name n.now w
         → FindsColumn cs (canonical w) result }
@@ -241,16 +204,16 @@ pub fn column_called(s: &[u8], n: &[u8]) -> Place
     while i < count {
         let end = bytes_bundle::next(s, 2, i, at);
         if are_alike_names(n, image_create::column_name(&s[at..end])) {
-            return Place::At(i);
+            return Some(i);
         }
         at = end;
         i += 1;
     }
-    Place::Nowhere
+    None
 }
 
 // How many ids some names of a key stand for: as many as there are, if each is a column's and none is given twice.
-fn count_names(columns: &[u8], names: &[u8]) -> Measured
+fn count_names(columns: &[u8], names: &[u8]) -> Result<usize, Refusal>
     requires { FewColumns columns.now × FewNames names.now }
     ensures { (cs : List ColumnDefinition) (ns : List Name) → Holds (list_of 2 column_definition) columns.now cs
         → Holds (list_of 2 name) names.now ns → result ≡ counted (key_ids (schemas 0 cs) [] (map canonical ns)) }
@@ -261,29 +224,28 @@ fn count_names(columns: &[u8], names: &[u8]) -> Measured
     let mut k = 0;
     while k < n {
         let end = bytes_bundle::next(names, 2, k, at);
-        match column_called(columns, &names[at..end]) {
-            Place::Nowhere => {
-                return refuse(Class::SchemaMismatch);
-            }
-            Place::At(_) => {}
-        }
+        column_called(columns, &names[at..end]).ok_or(Class::SchemaMismatch)?;
         if is_at(place, k) {
-            return refuse(Class::ConstraintViolation);
+            return Err(Refusal {
+                class: Class::ConstraintViolation,
+            });
         }
         at = end;
         k += 1;
     }
-    Measured::Is(n)
+    Ok(n)
 }
 
-fn count_key(s: &[u8], key: Key) -> Measured
+fn count_key(s: &[u8], key: Key) -> Result<usize, Refusal>
     requires { CreateWithin s.now × KeyIn s.now key }
     ensures { (v : CreateTable) (names : Option (List Text)) → Holds create s.now v → KeyAt v.columns v.constraints key names
         → result ≡ counted (key_of (schemas 0 v.columns) names) }
 {
     match key {
-        Key::Nowhere => refuse(Class::ConstraintViolation),
-        Key::Column(_) => Measured::Is(1),
+        Key::Nowhere => Err(Refusal {
+            class: Class::ConstraintViolation,
+        }),
+        Key::Column(_) => Ok(1),
         Key::Constrained(j) => {
             let c = bytes_bundle::part(image_create::constraints(s), 2, j);
             count_names(image_create::columns(s), image_create::key_names(c))
@@ -313,51 +275,51 @@ fn columns_len(s: &[u8]) -> usize
 }
 
 // A table whose key stands at `key` and whose name has `name` bytes.
-fn measure_keyed(s: &[u8], name: usize, key: Key) -> Measured
+fn measure_keyed(s: &[u8], name: usize, key: Key) -> Result<usize, Refusal>
     requires { CreateWithin s.now × KeyIn s.now key × (name ≤ 128) }
     ensures { (v : CreateTable) (t : Text) (names : Option (List Text)) → Holds create s.now v → length t ≡ name
         → KeyAt v.columns v.constraints key names → result ≡ sized bound_statement (key_table t (schemas 0 v.columns) names) }
 {
-    match count_key(s, key) {
-        Measured::Is(n) => Measured::Is(
-            17 + name + columns_len(image_create::columns(s)) + ids_len(n),
-        ),
-        Measured::Refused(refusal) => Measured::Refused(refusal),
-    }
+    let n = count_key(s, key)?;
+    Ok(17 + name + columns_len(image_create::columns(s)) + ids_len(n))
 }
 
 // A table whose name has `name` bytes.
-fn measure(s: &[u8], name: usize) -> Measured
+fn measure(s: &[u8], name: usize) -> Result<usize, Refusal>
     requires { CreateWithin s.now × (name ≤ 128) }
     ensures { (v : CreateTable) (t : Text) → Holds create s.now v → length t ≡ name → result ≡ sized bound_statement (define_table v t) }
 {
     let columns = image_create::columns(s);
     if bytes_bundle::parts(columns, 2) == 0 {
-        return refuse(Class::ConstraintViolation);
+        return Err(Refusal {
+            class: Class::ConstraintViolation,
+        });
     }
-    match find_key(s, bind_repeats::first_repeated(columns, Of::Columns)) {
-        Keyed::Is(key) => measure_keyed(s, name, key),
-        Keyed::Refused(class) => refuse(class),
-    }
+    let key = find_key(s, bind_repeats::first_repeated(columns, Of::Columns))?;
+    measure_keyed(s, name, key)
 }
 
 // How long the bound statement's image is, or the refusal.
-pub fn analyze_create_table(c: &[u8], s: &[u8]) -> Measured
+pub fn analyze_create_table(c: &[u8], s: &[u8]) -> Result<usize, Refusal>
     requires { Is catalogue c.now × CreateWithin s.now }
     ensures { (cat : Catalogue) (v : CreateTable) → Holds catalogue c.now cat → Holds create s.now v
         → result ≡ sized bound_statement (analyze_create_table cat v) }
 {
     if image_create::if_not_exists(s) {
-        return refuse(Class::UnsupportedSql);
+        return Err(Refusal {
+            class: Class::UnsupportedSql,
+        });
     }
     if image_create::as_query(s) {
-        return refuse(Class::UnsupportedSql);
+        return Err(Refusal {
+            class: Class::UnsupportedSql,
+        });
     }
     if image_create::other_feature(s) {
-        return refuse(Class::UnsupportedSql);
+        return Err(Refusal {
+            class: Class::UnsupportedSql,
+        });
     }
-    match new_table_name(c, image_create::table_name(s)) {
-        Measured::Is(name) => measure(s, name),
-        Measured::Refused(refusal) => Measured::Refused(refusal),
-    }
+    let name = new_table_name(c, image_create::table_name(s))?;
+    measure(s, name)
 }

@@ -16,7 +16,7 @@ ghost use Rattle.image_parts.specs.Layout.{condition, deletion};
 ghost use Rattle.bind_delete.specs.Deletes.{deleted_table, deleted_rows};
 ghost use Rattle.bind_delete.specs.Within.{DeleteWithin};
 
-use bind_table::{Measured, Resolved, refuse, resolve_direct_table, unresolved};
+use bind_table::{Resolved, resolve_direct_table, unresolved};
 use bind_table_ref::table_size;
 use bind_where::filter_size;
 use image_delete::{
@@ -24,7 +24,7 @@ use image_delete::{
     has_using, table_of,
 };
 use image_parts::condition::has_condition;
-use rules::Class;
+use rules::{Class, Refusal};
 
 // The one table that a DELETE names, which has no clause beside its FROM and its WHERE.
 pub fn deleted_table(c: &[u8], d: &[u8]) -> Resolved
@@ -59,27 +59,27 @@ pub fn deleted_table(c: &[u8], d: &[u8]) -> Resolved
 }
 
 // How long the bound DELETE over the table t is: a code and the head of a record of two have 13 bytes.
-fn delete_size(t: &[u8], e: &[u8]) -> Measured
+fn delete_size(t: &[u8], e: &[u8]) -> Result<usize, Refusal>
     requires { Is table t.now × ShortCondition e.now }
     ensures { (v : TableSchema) (o : Option Expr) → Holds table t.now v → Holds condition e.now o
         → result ≡ sized bound_statement (deleted_rows v o) }
 {
     if !has_condition(e) {
-        return refuse(Class::UnsupportedSql);
+        return Err(Refusal {
+            class: Class::UnsupportedSql,
+        });
     }
-    match filter_size(t, e) {
-        Measured::Is(n) => Measured::Is(13 + table_size(t) + n),
-        Measured::Refused(r) => Measured::Refused(r),
-    }
+    let n = filter_size(t, e)?;
+    Ok(13 + table_size(t) + n)
 }
 
-pub fn analyze_delete(c: &[u8], d: &[u8]) -> Measured
+pub fn analyze_delete(c: &[u8], d: &[u8]) -> Result<usize, Refusal>
     requires { Is catalogue c.now × DeleteWithin d.now }
     ensures { (cat : Catalogue) (v : Delete) → Holds catalogue c.now cat → Holds deletion d.now v
         → result ≡ sized bound_statement (analyze_delete cat v) }
 {
     match deleted_table(c, d) {
         Resolved::At(start, end) => delete_size(&c[start..end], condition_of(d)),
-        Resolved::Refused(r) => Measured::Refused(r),
+        Resolved::Refused(r) => Err(r),
     }
 }

@@ -17,7 +17,7 @@ use Rattle.rules.specs.Analyze.{insert_columns, insert_body, analyze_insert}
 use Rattle.image_bound.specs.Columns.{bound_table_ref, bound_column_ref}
 use Rattle.image_bound.specs.Layout.{bound_statement}
 use Rattle.image_bound.specs.Sizes.{insert_length}
-use Rattle.bind_table.specs.declared.Measured.TheVariants as measured
+use Rattle.std.specs.Prelude.{Ok}
 use Rattle.bind_table.specs.Told.{sized}
 use Rattle.bind_table.specs.Steps.{classed, step_on, step_off, test_on, test_off, steps_joined, sized_given}
 use Rattle.bind_table.specs.Tables.{named_table, named_joined}
@@ -114,7 +114,7 @@ module _ (t : TableSchema) (i : Insert) where
       -- a code, three lengths, and the three parts
       pub into_given : {k m n : ℕ} {rows : List (List Value)} → insert_rows t cs i ≡ given rows
           → k ≡ length (bound_table_ref.write (bound_table t)) → m ≡ length ((list_of 4 bound_column_ref).write cs) → n ≡ length ((list_of 4 (list_of 4 value)).write rows)
-          → measured.Is (17 + k + m + n) ≡ sized bound_statement (insert_into t i)
+          → Ok (17 + k + m + n) ≡ sized bound_statement (insert_into t i)
       unfolding insert_into
       into_given {k} {m} {n} {rows} h p q r =
           sized_given bound_statement (test_on _ _ (not_empty i.columns some) ∙ step_on _ e ∙ step_on _ h)

@@ -36,8 +36,8 @@ use Rattle.bind_repeats.specs.declared.Repeat.{Repeat}
 use Rattle.bind_repeats.specs.declared.Of.TheVariants as of
 use Rattle.bind_repeats.specs.Repeats.{alike, is_at, any_last, any_plain, take_next, drop_map, take_map, Reached, reached_none, reached_turn, reached_on}
 use Rattle.bind_repeats.specs.Entries.{entry, short_name, AllShort, FindsRepeat, entries_plain}
-use Rattle.bind_table.specs.declared.Measured.{Measured}
-use Rattle.bind_table.specs.declared.Measured.TheVariants as measured
+use Rattle.std.specs.Prelude.{Result}
+use Rattle.std.specs.Prelude.{Ok, Err}
 use Rattle.bind_table.specs.Told.{sized}
 use Rattle.bind_table.specs.Steps.{classed, test_on, test_off, found_on, found_off}
 use Rattle.bind_table.specs.Short.{ShortText}
@@ -195,12 +195,12 @@ pub record Given (v : TableSchema) (ns : List Name) (codes : List ℕ) (n : ℕ)
   pub long : n ≡ length ((list_of 4 bound_column_ref).write value)
 
 -- what is said when all are looked at
-pub record ColumnsBound (v : TableSchema) (ns : List Name) (codes : List ℕ) (r : Measured) : Type 0 where
+pub record ColumnsBound (v : TableSchema) (ns : List Name) (codes : List ℕ) (r : Result ℕ Refusal) : Type 0 where
   pub is : r ≡ sized (list_of 4 bound_column_ref) (insert_columns v [] (texts ns))
-  pub bound : (n : ℕ) → r ≡ measured.Is n → Given v ns codes n
+  pub bound : (n : ℕ) → r ≡ Ok n → Given v ns codes n
 
-pub bound_off : {v : TableSchema} {ns : List Name} {codes : List ℕ} {r : Measured} {k : Refusal} → r ≡ measured.Refused k
-    → measured.Refused k ≡ sized (list_of 4 bound_column_ref) (insert_columns v [] (texts ns)) → ColumnsBound v ns codes r
+pub bound_off : {v : TableSchema} {ns : List Name} {codes : List ℕ} {r : Result ℕ Refusal} {k : Refusal} → r ≡ Err k
+    → Err k ≡ sized (list_of 4 bound_column_ref) (insert_columns v [] (texts ns)) → ColumnsBound v ns codes r
 bound_off q h = record { is = q ∙ h; bound = λ n e. let z : ◌≡◌ {A = ℕ} 0 1 = cc in absurd (omega arith) }
 
 pub binding : {t s codes : List ℕ} → Binding t s codes 0 4
@@ -240,7 +240,7 @@ module _ {t s codes : List ℕ} {i total at e : ℕ} (w : Binding t s codes i to
             ∙ ap (any (alike (some (canonical n)))) (take_map some i (texts ns)) ∙ any_plain (canonical n) (take i (texts ns))
 
   pub bind_repeated : is_at i place ≡ true → (v : TableSchema) (ns : List Name) → Holds table t v → Holds (list_of 2 name) s ns
-      → measured.Refused (classed ConstraintViolation) ≡ sized (list_of 4 bound_column_ref) (insert_columns v [] (texts ns))
+      → Err (classed ConstraintViolation) ≡ sized (list_of 4 bound_column_ref) (insert_columns v [] (texts ns))
   bind_repeated q v ns ht hs =
       let g = p v ns ht hs in
       grown_refused g.grown
@@ -248,7 +248,7 @@ module _ {t s codes : List ℕ} {i total at e : ℕ} (w : Binding t s codes i to
 
   module _ (q : is_at i place ≡ false) {r : Named} (look : (m : Name) → Holds name (take (e - at) (drop at s)) m → FindsColumn t (canonical m) r) where
     pub bind_unknown : r ≡ named.Nothing → (v : TableSchema) (ns : List Name) → Holds table t v → Holds (list_of 2 name) s ns
-        → measured.Refused (classed SchemaMismatch) ≡ sized (list_of 4 bound_column_ref) (insert_columns v [] (texts ns))
+        → Err (classed SchemaMismatch) ≡ sized (list_of 4 bound_column_ref) (insert_columns v [] (texts ns))
     bind_unknown x v ns ht hs =
         let g = p v ns ht hs in
         let o = subst (ColumnIs t (column_by_name v (canonical (n v ns ht hs)))) x (look (n v ns ht hs) (turn d hs).holds v ht) in
@@ -285,7 +285,7 @@ module _ {t s codes : List ℕ} {i total at e : ℕ} (w : Binding t s codes i to
     }
 
 module _ {t s codes : List ℕ} {i total n at : ℕ} (w : Binding t s codes i total) (a : Along s n i at) (l : n ≤ i) where
-  pub bind_end : (v : TableSchema) (ns : List Name) → Holds table t v → Holds (list_of 2 name) s ns → ColumnsBound v ns codes (measured.Is total)
+  pub bind_end : (v : TableSchema) (ns : List Name) → Holds table t v → Holds (list_of 2 name) s ns → ColumnsBound v ns codes (Ok total)
   bind_end v ns ht hs =
       let g = w.at v ns ht hs in
       let z : length ns ≤ i = omega (arith, a.count, list_count name s hs) in

@@ -8,7 +8,7 @@ use Rattle.rules.specs.declared.Refusal.{Refusal}
 use Rattle.rules.specs.Answers.{Answer, given, refused, each, ◌>>=◌}
 use Rattle.image_bound.specs.Bundles.{bodies, bodies_snoc, list_length}
 use Rattle.image_bound.specs.Sizes.{no_parts_length}
-use Rattle.bind_table.specs.declared.Measured.TheVariants as measured
+use Rattle.std.specs.Prelude.{Ok, Err}
 use Rattle.bind_table.specs.Told.{sized}
 use Rattle.bind_table.specs.Steps.{step_on, step_off, sized_given, sized_refused}
 
@@ -56,10 +56,10 @@ module _ {B : Type 0} {g : Format B} {whole rest : Answer (List B)} {n total : �
   grown_end e = k.is ∙ step_on _ e ∙ ap given (append-nil k.done)
 
   -- and so what is answered
-  pub grown_refused : {r : Refusal} → rest ≡ refused r → measured.Refused r ≡ sized (list_of 4 g) whole
+  pub grown_refused : {r : Refusal} → rest ≡ refused r → Err r ≡ sized (list_of 4 g) whole
   grown_refused e = sized_refused (list_of 4 g) (grown_off e)
 
-  pub grown_given : rest ≡ given [] → measured.Is total ≡ sized (list_of 4 g) whole
+  pub grown_given : rest ≡ given [] → Ok total ≡ sized (list_of 4 g) whole
   grown_given e = sized_given (list_of 4 g) (grown_end e) k.long
 
 -- ---- each of a list in turn

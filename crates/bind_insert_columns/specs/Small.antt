@@ -9,20 +9,7 @@ use Rattle.bytes_bundle.specs.Bundle.{or_nil, parts_of, IsBundle, Stepped}
 use Rattle.bytes_bundle.specs.Laws.{some_there}
 use Rattle.bytes_bundle.specs.Held.{Holds}
 use Rattle.image_catalogue.specs.Layout.{table}
-use Rattle.rules.specs.declared.Refusal.{Refusal}
 use Rattle.rules.specs.Tables.{TableSchema}
-use Rattle.bind_table.specs.declared.Measured.{Measured}
-use Rattle.bind_table.specs.declared.Measured.TheVariants as measured
-
--- what was measured is at most k bytes long
-pub record AtMost (k : ℕ) (m : Measured) : Type 0 where
-  pub small : (n : ℕ) → m ≡ measured.Is n → n ≤ k
-
-pub is_most : {n k : ℕ} → n ≤ k → AtMost k (measured.Is n)
-is_most {n} h = record { small = λ m e. let q : n ≡ m = cc in omega (arith, q) }
-
-pub refused_most : {r : Refusal} {k : ℕ} → AtMost k (measured.Refused r)
-refused_most = record { small = λ m e. let q : ◌≡◌ {A = ℕ} 0 1 = cc in absurd (omega arith) }
 
 -- ---- a bundle's parts
 

@@ -1,7 +1,7 @@
 // The target columns of an INSERT, and the columns that it must not leave out.
 #![tactic(auto)]
 
-ghost use Rattle.std.specs.Prelude.{◌≡◌, Bool, List, ◌≤◌, length};
+ghost use Rattle.std.specs.Prelude.{◌≡◌, Bool, List, ◌≤◌, length, IfOk};
 ghost use Rattle.bytes_format.proofs.Formats.{list_of};
 ghost use Rattle.bytes_bundle.specs.Held.{Is, Holds};
 ghost use Rattle.image_value.specs.Parts.{data_type_no, column_schema};
@@ -16,16 +16,14 @@ ghost use Rattle.bind_repeats.specs.declared.Of.TheVariants as of;
 ghost use Rattle.bind_repeats.specs.Entries.{AllShort};
 ghost use Rattle.bind_table.specs.Short.{ShortText};
 ghost use Rattle.bind_insert_columns.specs.Coded.{code_of};
-ghost use Rattle.bind_insert_columns.specs.Small.{AtMost};
 ghost use Rattle.bind_insert_columns.specs.Columns.{Targets, is_among, needed, lacking, ColumnsBound};
 
 use bind_repeats::{Of, first_repeated, is_at};
-use bind_table::{Measured, refuse};
 use catalogue_lookup::{Named, find_column, in_key};
 use image_bound::columns::column_ref_len;
 use image_catalogue::{column_id, column_name, column_nullable};
 use image_parts::names::{name_is_quoted, name_text};
-use rules::{Class, DataType};
+use rules::{Class, DataType, Refusal};
 use text_names::is_called;
 
 // What makes a column one that an INSERT must not leave out.
@@ -65,9 +63,9 @@ pub fn find_target(t: &[u8], n: &[u8]) -> Named
 }
 
 // Each column in turn, its byte into the array. A name that repeats an earlier one is refused in its turn.
-pub fn bind_columns(t: &[u8], names: &[u8], codes: &mut [u8; 64]) -> Measured
+pub fn bind_columns(t: &[u8], names: &[u8], codes: &mut [u8; 64]) -> Result<usize, Refusal>
     requires { Is table t.now × (Targets names.now × (length codes.old ≡ 64)) }
-    ensures { AtMost 10116 result
+    ensures { IfOk result (λ k. k ≤ 10116)
         × ((v : TableSchema) (ns : List Name) → Holds table t.now v → Holds (list_of 2 name) names.now ns → ColumnsBound v ns codes.new result) }
 {
     let place = first_repeated(names, Of::Names);
@@ -78,7 +76,9 @@ pub fn bind_columns(t: &[u8], names: &[u8], codes: &mut [u8; 64]) -> Measured
     while i < n {
         let end = bytes_bundle::next(names, 2, i, at);
         if is_at(place, i) {
-            return refuse(Class::ConstraintViolation);
+            return Err(Refusal {
+                class: Class::ConstraintViolation,
+            });
         }
         match find_target(t, &names[at..end]) {
             Named::Is(c) => {
@@ -87,13 +87,15 @@ pub fn bind_columns(t: &[u8], names: &[u8], codes: &mut [u8; 64]) -> Measured
                 total += 4 + column_ref_len(name_text(&names[at..end]).len());
             }
             Named::Nothing => {
-                return refuse(Class::SchemaMismatch);
+                return Err(Refusal {
+                    class: Class::SchemaMismatch,
+                });
             }
         }
         at = end;
         i += 1;
     }
-    Measured::Is(total)
+    Ok(total)
 }
 
 fn calls(n: &[u8], other: &[u8]) -> bool

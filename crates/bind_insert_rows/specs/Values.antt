@@ -19,16 +19,14 @@ use Rattle.rules.specs.Analyze.{insert_literal, value_fit, insert_values, insert
 use Rattle.bind_fits.specs.declared.Fit.{Fit}
 use Rattle.bind_fits.specs.declared.Fit.TheVariants.{Fine, Flaw}
 use Rattle.bind_fits.specs.Told.{told_fit}
-use Rattle.bind_table.specs.declared.Measured.{Measured}
-use Rattle.bind_table.specs.declared.Measured.TheVariants as measured
+use Rattle.std.specs.Prelude.{Result, Ok, Err, IfOk}
 use Rattle.bind_table.specs.Told.{sized}
 use Rattle.bind_table.specs.Steps.{classed, step_on, step_off, test_on, test_off, judged_on, judged_off, sized_given, sized_refused, sized_is, sized_off, sized_as}
 use Rattle.bind_insert_columns.specs.Coded.{column_code, Coded, coded_at}
-use Rattle.bind_insert_columns.specs.Small.{AtMost, is_most, refused_most}
 use Rattle.bind_insert_columns.specs.Grown.{Grown, grown_none, grown_more, grown_refused, grown_given, each_on, each_off, each_none}
 
 -- r is how long the image is of what F makes of the value that s holds, for n columns whose bytes the array begins with
-abbrev pub Measures : {A B : Type 0} → List ℕ → ℕ → Format A → List ℕ → Format B → (List BoundColumnRef → A → Answer B) → Measured → Type 0
+abbrev pub Measures : {A B : Type 0} → List ℕ → ℕ → Format A → List ℕ → Format B → (List BoundColumnRef → A → Answer B) → Result ℕ Refusal → Type 0
 Measures {A} codes n f s g F r = (cs : List BoundColumnRef) (a : A) → Coded codes cs → n ≡ length cs → Holds f s a → r ≡ sized g (F cs a)
 
 -- ---- one value: a literal that fits its column
@@ -36,13 +34,13 @@ Measures {A} codes n f s g F r = (cs : List BoundColumnRef) (a : A) → Coded co
 unfoldable pub insert_value : Expr → BoundColumnRef → Answer Value
 insert_value e c = insert_literal e >>= (λ v. judged (value_fit v c) >> given v)
 
-abbrev pub fit_told : Fit → ℕ → Measured
-fit_told Fine n = measured.Is n
-fit_told (Flaw k) n = measured.Refused (classed k)
+abbrev pub fit_told : Fit → ℕ → Result ℕ Refusal
+fit_told Fine n = Ok n
+fit_told (Flaw k) n = Err (classed k)
 
-pub fit_most : (f : Fit) {n k : ℕ} → n ≤ k → AtMost k (fit_told f n)
-fit_most Fine h = is_most h
-fit_most (Flaw j) h = refused_most
+pub fit_most : (f : Fit) {n k : ℕ} → n ≤ k → IfOk (fit_told f n) (λ m. m ≤ k)
+fit_most Fine h = h
+fit_most (Flaw j) h = tt
 
 module _ (x : Expr) (c : BoundColumnRef) where
   pub value_told : {v : Value} {n : ℕ} → insert_literal x ≡ given v → n ≡ length (value.write v) → fit_told (told_fit (value_fit v c)) n ≡ sized value (insert_value x c)
@@ -53,7 +51,7 @@ module _ (x : Expr) (c : BoundColumnRef) where
       go (fine u) q = sized_given value (step_on _ e ∙ judged_on _ q) h
       go (flaw k) q = sized_refused value (step_on _ e ∙ judged_off _ q)
 
-  pub value_off : {r : Refusal} → insert_literal x ≡ refused r → measured.Refused r ≡ sized value (insert_value x c)
+  pub value_off : {r : Refusal} → insert_literal x ≡ refused r → Err r ≡ sized value (insert_value x c)
   unfolding insert_value
   value_off e = sized_refused value (step_off _ e)
 
@@ -92,9 +90,9 @@ pub record Valued (row codes : List ℕ) (n j total : ℕ) : Type 0 where
 pub valued_none : {row codes : List ℕ} {n : ℕ} → Valued row codes n 0 4
 valued_none = record { at = λ cs es k q h. grown_none value (insert_values cs es) }
 
-module _ {row codes : List ℕ} {n j total at e : ℕ} (w : Valued row codes n j total) (d : Stepped 2 row j at e) (few : j < n) {m : Measured}
+module _ {row codes : List ℕ} {n j total at e : ℕ} (w : Valued row codes n j total) (d : Stepped 2 row j at e) (few : j < n) {m : Result ℕ Refusal}
     (says : (x : Expr) (c : BoundColumnRef) → Holds expression (take (e - at) (drop at row)) x → get_or codes j 0 ≡ column_code c → m ≡ sized value (insert_value x c)) where
-  pub valued_on : {k : ℕ} → m ≡ measured.Is k → Valued row codes n (j + 1) (total + (4 + k))
+  pub valued_on : {k : ℕ} → m ≡ Ok k → Valued row codes n (j + 1) (total + (4 + k))
   valued_on {k} e = record {
     at = λ cs es b q h.
         let t = turn {f = expression} d h in
@@ -104,8 +102,8 @@ module _ {row codes : List ℕ} {n j total at e : ℕ} (w : Valued row codes n j
         (ap₂ insert_values u.1 t.rest ∙ values_next u.0 (drop (j + 1) cs) t.value (drop (j + 1) es) ∙ step_on _ s.gives) s.long;
   }
 
-  pub valued_off : {r : Refusal} → m ≡ measured.Refused r → (cs : List BoundColumnRef) (es : List Expr) → Coded codes cs → n ≡ length cs → Holds (list_of 2 expression) row es
-      → measured.Refused r ≡ sized (list_of 4 value) (insert_values cs es)
+  pub valued_off : {r : Refusal} → m ≡ Err r → (cs : List BoundColumnRef) (es : List Expr) → Coded codes cs → n ≡ length cs → Holds (list_of 2 expression) row es
+      → Err r ≡ sized (list_of 4 value) (insert_values cs es)
   valued_off e cs es b q h =
       let t = turn {f = expression} d h in
       let u = drop_turn j cs (omega (arith, q)) in
@@ -115,7 +113,7 @@ module _ {row codes : List ℕ} {n j total at e : ℕ} (w : Valued row codes n j
 
 pub valued_end : {row codes : List ℕ} {n j total : ℕ} → Valued row codes n j total → n ≤ j
     → (cs : List BoundColumnRef) (es : List Expr) → Coded codes cs → n ≡ length cs → Holds (list_of 2 expression) row es
-    → measured.Is total ≡ sized (list_of 4 value) (insert_values cs es)
+    → Ok total ≡ sized (list_of 4 value) (insert_values cs es)
 unfolding insert_values
 valued_end {j = j} w l cs es b q h =
     grown_given (w.at cs es b q h) (ap (λ (m : List BoundColumnRef). insert_values m (drop j es)) (drop_of_length-le cs {i = j} (omega (arith, q))) ∙ none (drop j es))
@@ -126,11 +124,11 @@ valued_end {j = j} w l cs es b q h =
 
 -- the number of the values is told before the values
 module _ (cs : List BoundColumnRef) (es : List Expr) where
-  pub row_on : {m : Measured} → length es ≡ length cs → m ≡ sized (list_of 4 value) (insert_values cs es) → m ≡ sized (list_of 4 value) (insert_row cs es)
+  pub row_on : {m : Result ℕ Refusal} → length es ≡ length cs → m ≡ sized (list_of 4 value) (insert_values cs es) → m ≡ sized (list_of 4 value) (insert_row cs es)
   unfolding insert_row
   row_on q h = sized_as (list_of 4 value) (test_on _ _ (ap not (eq-eqb (length es) (length cs) q))) h
 
-  pub row_off : (length es ≡ length cs → ⊥) → measured.Refused (classed ConstraintViolation) ≡ sized (list_of 4 value) (insert_row cs es)
+  pub row_off : (length es ≡ length cs → ⊥) → Err (classed ConstraintViolation) ≡ sized (list_of 4 value) (insert_row cs es)
   unfolding insert_row
   row_off q = sized_refused (list_of 4 value) (test_off _ _ (ap not (ne_eqb (length es) (length cs) q)))
 
@@ -144,9 +142,9 @@ pub record Rowed (rows codes : List ℕ) (n i total : ℕ) : Type 0 where
 pub rowed_none : {rows codes : List ℕ} {n : ℕ} → Rowed rows codes n 0 4
 rowed_none = record { at = λ cs rs k q h. grown_none (list_of 4 value) (each (insert_row cs) rs) }
 
-module _ {rows codes : List ℕ} {n i total at e : ℕ} (w : Rowed rows codes n i total) (d : Stepped 2 rows i at e) {m : Measured}
+module _ {rows codes : List ℕ} {n i total at e : ℕ} (w : Rowed rows codes n i total) (d : Stepped 2 rows i at e) {m : Result ℕ Refusal}
     (says : Measures codes n (list_of 2 expression) (take (e - at) (drop at rows)) (list_of 4 value) insert_row m) where
-  pub rowed_on : {k : ℕ} → m ≡ measured.Is k → Rowed rows codes n (i + 1) (total + (4 + k))
+  pub rowed_on : {k : ℕ} → m ≡ Ok k → Rowed rows codes n (i + 1) (total + (4 + k))
   rowed_on e = record {
     at = λ cs rs b q h.
         let t = turn {f = list_of 2 expression} d h in
@@ -155,14 +153,14 @@ module _ {rows codes : List ℕ} {n i total at e : ℕ} (w : Rowed rows codes n 
         (ap (each (insert_row cs)) t.rest ∙ each_on (insert_row cs) t.value (drop (i + 1) rs) s.gives) s.long;
   }
 
-  pub rowed_off : {r : Refusal} → m ≡ measured.Refused r → Measures codes n (list_of 2 (list_of 2 expression)) rows (list_of 4 (list_of 4 value)) (λ cs. each (insert_row cs)) (measured.Refused r)
+  pub rowed_off : {r : Refusal} → m ≡ Err r → Measures codes n (list_of 2 (list_of 2 expression)) rows (list_of 4 (list_of 4 value)) (λ cs. each (insert_row cs)) (Err r)
   rowed_off e cs rs b q h =
       let t = turn {f = list_of 2 expression} d h in
       grown_refused (w.at cs rs b q h)
       (ap (each (insert_row cs)) t.rest ∙ each_off (insert_row cs) t.value (drop (i + 1) rs) (sized_off (list_of 4 value) {m = m} (says cs t.value b q t.holds) e))
 
 pub rowed_end : {rows codes : List ℕ} {n i total k at : ℕ} → Rowed rows codes n i total → Along rows k i at → k ≤ i
-    → Measures codes n (list_of 2 (list_of 2 expression)) rows (list_of 4 (list_of 4 value)) (λ cs. each (insert_row cs)) (measured.Is total)
+    → Measures codes n (list_of 2 (list_of 2 expression)) rows (list_of 4 (list_of 4 value)) (λ cs. each (insert_row cs)) (Ok total)
 rowed_end {rows = rows} {i = i} w a l cs rs b q h =
     let z : length rs ≤ i = omega (arith, a.count, list_count (list_of 2 expression) rows h) in
     grown_given (w.at cs rs b q h) (ap (each (insert_row cs)) (drop_of_length-le rs {i = i} z) ∙ each_none (insert_row cs))

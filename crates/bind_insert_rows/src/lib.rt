@@ -1,7 +1,7 @@
 // The rows of an INSERT, held against its target columns.
 #![tactic(auto)]
 
-ghost use Rattle.std.specs.Prelude.{◌≡◌, ◌≤◌, length};
+ghost use Rattle.std.specs.Prelude.{◌≡◌, ◌≤◌, length, IfOk};
 ghost use Rattle.bytes_format.proofs.Formats.{list_of};
 ghost use Rattle.bytes_bundle.specs.Held.{Is, Holds};
 ghost use Rattle.image_value.specs.Parts.{value};
@@ -14,16 +14,14 @@ ghost use Rattle.rules.specs.Analyze.{value_fit, insert_row, insert_body};
 ghost use Rattle.bind_fits.specs.Told.{told_fit, kind_of};
 ghost use Rattle.bind_table.specs.Told.{sized};
 ghost use Rattle.bind_insert_columns.specs.Coded.{column_code};
-ghost use Rattle.bind_insert_columns.specs.Small.{AtMost};
 ghost use Rattle.bind_insert_rows.specs.Values.{Measures, insert_value, fit_told};
 ghost use Rattle.bind_insert_rows.specs.Sources.{given_rows};
 
 use bind_fits::{Fit, ValueKind, value_fit};
 use bind_literal::{Scalar, insert_literal, text_of};
-use bind_table::{Measured, refuse};
 use image_bound::values::{bool_len, int_len, null_len, text_len};
 use image_insert::{body_of, explicit_row, has_clauses, has_source, is_values, rows_of, source_of};
-use rules::{Class, DataType};
+use rules::{Class, DataType, Refusal};
 
 // A column's byte: 0 INT, 1 TEXT, 2 BOOL, and 4 more where it is nullable.
 fn type_in(code: u8) -> DataType
@@ -46,58 +44,53 @@ fn fits(given: ValueKind, code: u8) -> Fit
 }
 
 // What fits is n bytes long.
-fn fitted(fit: Fit, n: usize) -> Measured
+fn fitted(fit: Fit, n: usize) -> Result<usize, Refusal>
     ensures { result ≡ fit_told fit n }
 {
     match fit {
-        Fit::Fine => Measured::Is(n),
-        Fit::Flaw(class) => refuse(class),
+        Fit::Fine => Ok(n),
+        Fit::Flaw(class) => Err(Refusal { class }),
     }
 }
 
-fn value_len(e: &[u8], code: u8) -> Measured
+fn value_len(e: &[u8], code: u8) -> Result<usize, Refusal>
     requires { Is expression e.now × (length e.now ≤ 65536) }
-    ensures { AtMost 65537 result × ((x : Expr) (c : BoundColumnRef) → Holds expression e.now x → code ≡ column_code c → result ≡ sized value (insert_value x c)) }
+    ensures { IfOk result (λ k. k ≤ 65537) × ((x : Expr) (c : BoundColumnRef) → Holds expression e.now x → code ≡ column_code c → result ≡ sized value (insert_value x c)) }
 {
     match insert_literal(e) {
         Scalar::Int(_) => fitted(fits(ValueKind::Int, code), int_len()),
         Scalar::Text => fitted(fits(ValueKind::Text, code), text_len(text_of(e).len())),
         Scalar::Bool(_) => fitted(fits(ValueKind::Bool, code), bool_len()),
         Scalar::Null => fitted(fits(ValueKind::Null, code), null_len()),
-        Scalar::Refused(r) => Measured::Refused(r),
+        Scalar::Refused(r) => Err(r),
     }
 }
 
 // As many values as there are columns, each fit for its own.
-fn row_len(row: &[u8], codes: &[u8; 64], n: usize) -> Measured
+fn row_len(row: &[u8], codes: &[u8; 64], n: usize) -> Result<usize, Refusal>
     requires { Is (list_of 2 expression) row.now × (n ≤ 64) }
-    ensures { AtMost 4194628 result × Measures codes.now n (list_of 2 expression) row.now (list_of 4 value) insert_row result }
+    ensures { IfOk result (λ k. k ≤ 4194628) × Measures codes.now n (list_of 2 expression) row.now (list_of 4 value) insert_row result }
 {
     if bytes_bundle::parts(row, 2) != n {
-        return refuse(Class::ConstraintViolation);
+        return Err(Refusal {
+            class: Class::ConstraintViolation,
+        });
     }
     let mut total = 4;
     let mut at = bytes_bundle::first(row, 2);
     let mut j = 0;
     while j < n {
         let end = bytes_bundle::next(row, 2, j, at);
-        match value_len(&row[at..end], codes[j]) {
-            Measured::Is(k) => {
-                total += 4 + k;
-            }
-            Measured::Refused(r) => {
-                return Measured::Refused(r);
-            }
-        }
+        total += 4 + value_len(&row[at..end], codes[j])?;
         at = end;
         j += 1;
     }
-    Measured::Is(total)
+    Ok(total)
 }
 
-fn rows_len(rows: &[u8], codes: &[u8; 64], n: usize) -> Measured
+fn rows_len(rows: &[u8], codes: &[u8; 64], n: usize) -> Result<usize, Refusal>
     requires { Is (list_of 2 (list_of 2 expression)) rows.now × (n ≤ 64) }
-    ensures { AtMost 300000000000 result
+    ensures { IfOk result (λ k. k ≤ 300000000000)
         × Measures codes.now n (list_of 2 (list_of 2 expression)) rows.now (list_of 4 (list_of 4 value)) (λ cs. each (insert_row cs)) result }
 {
     let many = bytes_bundle::parts(rows, 2);
@@ -106,49 +99,52 @@ fn rows_len(rows: &[u8], codes: &[u8; 64], n: usize) -> Measured
     let mut i = 0;
     while i < many {
         let end = bytes_bundle::next(rows, 2, i, at);
-        match row_len(&rows[at..end], codes, n) {
-            Measured::Is(k) => {
-                total += 4 + k;
-            }
-            Measured::Refused(r) => {
-                return Measured::Refused(r);
-            }
-        }
+        total += 4 + row_len(&rows[at..end], codes, n)?;
         at = end;
         i += 1;
     }
-    Measured::Is(total)
+    Ok(total)
 }
 
 // The rows of VALUES: some, and not in the ROW form.
-fn body_len(b: &[u8], codes: &[u8; 64], n: usize) -> Measured
+fn body_len(b: &[u8], codes: &[u8; 64], n: usize) -> Result<usize, Refusal>
     requires { Is source_body b.now × (n ≤ 64) }
-    ensures { AtMost 300000000000 result × Measures codes.now n source_body b.now (list_of 4 (list_of 4 value)) insert_body result }
+    ensures { IfOk result (λ k. k ≤ 300000000000) × Measures codes.now n source_body b.now (list_of 4 (list_of 4 value)) insert_body result }
 {
     if !is_values(b) {
-        return refuse(Class::UnsupportedSql);
+        return Err(Refusal {
+            class: Class::UnsupportedSql,
+        });
     }
     if explicit_row(b) {
-        return refuse(Class::UnsupportedSql);
+        return Err(Refusal {
+            class: Class::UnsupportedSql,
+        });
     }
     let rows = rows_of(b);
     if bytes_bundle::parts(rows, 2) == 0 {
-        return refuse(Class::InvalidArgument);
+        return Err(Refusal {
+            class: Class::InvalidArgument,
+        });
     }
     rows_len(rows, codes, n)
 }
 
-pub fn source_len(i: &[u8], codes: &[u8; 64], n: usize) -> Measured
+pub fn source_len(i: &[u8], codes: &[u8; 64], n: usize) -> Result<usize, Refusal>
     requires { Is insertion i.now × (n ≤ 64) }
-    ensures { AtMost 300000000000 result
+    ensures { IfOk result (λ k. k ≤ 300000000000)
         × Measures codes.now n insertion i.now (list_of 4 (list_of 4 value)) (λ cs v. given_rows cs v.source) result }
 {
     if !has_source(i) {
-        return refuse(Class::UnsupportedSql);
+        return Err(Refusal {
+            class: Class::UnsupportedSql,
+        });
     }
     let s = source_of(i);
     if has_clauses(s) {
-        return refuse(Class::UnsupportedSql);
+        return Err(Refusal {
+            class: Class::UnsupportedSql,
+        });
     }
     body_len(body_of(s), codes, n)
 }

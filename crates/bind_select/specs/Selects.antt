@@ -12,8 +12,7 @@ use Rattle.image_bound.specs.Expression.{bound_expression, bound_expression_not_
 use Rattle.image_bound.specs.Layout.{bound_statement}
 use Rattle.image_bound.specs.Sizes.{select_length}
 use Rattle.image_select.specs.Held.{item_no, from_no, body_no}
-use Rattle.bind_table.specs.declared.Measured.{Measured}
-use Rattle.bind_table.specs.declared.Measured.TheVariants as measured
+use Rattle.std.specs.Prelude.{Result, Ok, Err}
 use Rattle.bind_table.specs.Steps.{classed, step_on, step_off, steps_joined, test_on, test_off, found_on, found_off}
 use Rattle.bind_table.specs.Told.{told, sized}
 use Rattle.rules.specs.declared.Class.TheVariants.{SchemaMismatch, UnsupportedSql}
@@ -132,13 +131,13 @@ module _ (t : TableSchema) (o : Option Expr) where
 -- ---- an item, by its code
 
 -- how much an item adds to the list of the projection
-abbrev pub added : Answer (List BoundColumnRef) → Measured
+abbrev pub added : Answer (List BoundColumnRef) → Result ℕ Refusal
 added a = told (mapped entries a)
 
-pub added_given : {a : Answer (List BoundColumnRef)} {cs : List BoundColumnRef} {n : ℕ} → a ≡ given cs → n ≡ entries cs → measured.Is n ≡ added a
-added_given e h = ap measured.Is h ∙ ap added (sym e)
+pub added_given : {a : Answer (List BoundColumnRef)} {cs : List BoundColumnRef} {n : ℕ} → a ≡ given cs → n ≡ entries cs → Ok n ≡ added a
+added_given e h = ap Ok h ∙ ap added (sym e)
 
-pub added_refused : {a : Answer (List BoundColumnRef)} {r : Refusal} → a ≡ refused r → measured.Refused r ≡ added a
+pub added_refused : {a : Answer (List BoundColumnRef)} {r : Refusal} → a ≡ refused r → Err r ≡ added a
 added_refused e = ap added (sym e)
 
 -- an answer gave columns that add n
@@ -147,18 +146,18 @@ pub record Added (a : Answer (List BoundColumnRef)) (n : ℕ) : Type 0 where
   pub gives : a ≡ given value
   pub long : n ≡ entries value
 
-module _ {a : Answer (List BoundColumnRef)} {m : Measured} (e : m ≡ added a) where
-  pub added_is : {n : ℕ} → m ≡ measured.Is n → Added a n
+module _ {a : Answer (List BoundColumnRef)} {m : Result ℕ Refusal} (e : m ≡ added a) where
+  pub added_is : {n : ℕ} → m ≡ Ok n → Added a n
   added_is {n} h = go a (sym h ∙ e)
     where
-      go : (a : Answer (List BoundColumnRef)) → measured.Is n ≡ added a → Added a n
+      go : (a : Answer (List BoundColumnRef)) → Ok n ≡ added a → Added a n
       go (given cs) e = record { value = cs; gives = refl; long = cc }
       go (refused r) e = let z : ◌≡◌ {A = ℕ} 0 1 = cc in absurd (omega arith)
 
-  pub added_off : {r : Refusal} → m ≡ measured.Refused r → a ≡ refused r
+  pub added_off : {r : Refusal} → m ≡ Err r → a ≡ refused r
   added_off {r} h = go a (sym h ∙ e)
     where
-      go : (a : Answer (List BoundColumnRef)) → measured.Refused r ≡ added a → a ≡ refused r
+      go : (a : Answer (List BoundColumnRef)) → Err r ≡ added a → a ≡ refused r
       go (given cs) e = let z : ◌≡◌ {A = ℕ} 0 1 = cc in absurd (omega arith)
       go (refused q) e = cc
 
@@ -187,7 +186,7 @@ module _ (t : TableSchema) where
 -- ---- a loop over the items: what is added so far, and what is left
 
 -- a list of columns behind `sum` bytes
-abbrev pub behind : ℕ → Answer (List BoundColumnRef) → Measured
+abbrev pub behind : ℕ → Answer (List BoundColumnRef) → Result ℕ Refusal
 behind sum a = told (mapped (λ cs. sum + entries cs) a)
 
 pub record Summed (t : TableSchema) (xs : List Item) (i sum : ℕ) : Type 0 where
@@ -198,13 +197,13 @@ unfolding sized
 summed_none t xs = record { is = go (projection t xs) }
   where
     go : (a : Answer (List BoundColumnRef)) → told (mapped (λ cs. length ((list_of 4 bound_column_ref).write cs)) a) ≡ behind 4 a
-    go (given cs) = ap measured.Is (list_entries cs)
+    go (given cs) = ap Ok (list_entries cs)
     go (refused r) = refl
 
 module _ {t : TableSchema} {xs : List Item} {i sum : ℕ} (s : Summed t xs i sum) where
   module _ {x : Item} (d : drop i xs ≡ x ∷ drop (i + 1) xs) where
     -- an item that is refused is the answer
-    pub summed_off : {r : Refusal} → item t x ≡ refused r → measured.Refused r ≡ sized (list_of 4 bound_column_ref) (projection t xs)
+    pub summed_off : {r : Refusal} → item t x ≡ refused r → Err r ≡ sized (list_of 4 bound_column_ref) (projection t xs)
     unfolding projection
     summed_off h = sym (s.is ∙ ap (λ (l : List Item). behind sum (projection t l)) d ∙ ap (behind sum) (step_off _ h))
 
@@ -215,10 +214,10 @@ module _ {t : TableSchema} {xs : List Item} {i sum : ℕ} (s : Summed t xs i sum
     }
       where
         go : (a : Answer (List BoundColumnRef)) → behind sum (a >>= (λ ds. given (cs ++ ds))) ≡ behind (sum + n) a
-        go (given ds) = ap measured.Is (omega (arith, entries_append cs ds, k))
+        go (given ds) = ap Ok (omega (arith, entries_append cs ds, k))
         go (refused r) = refl
 
-  pub summed_end : length xs ≤ i → measured.Is sum ≡ sized (list_of 4 bound_column_ref) (projection t xs)
+  pub summed_end : length xs ≤ i → Ok sum ≡ sized (list_of 4 bound_column_ref) (projection t xs)
   unfolding projection
   summed_end h =
-      sym (s.is ∙ ap (λ (l : List Item). behind sum (projection t l)) (drop_of_length-le xs {i = i} h) ∙ ap measured.Is (omega (arith, no_entries)))
+      sym (s.is ∙ ap (λ (l : List Item). behind sum (projection t l)) (drop_of_length-le xs {i = i} h) ∙ ap Ok (omega (arith, no_entries)))

@@ -1,14 +1,13 @@
 // SELECT over a catalogue: its table, its items in their order, then its condition.
 #![tactic(auto)]
 
-ghost use Rattle.std.specs.Prelude.{◌≡◌, List, ◌+◌, ◌≤◌};
+ghost use Rattle.std.specs.Prelude.{◌≡◌, List, ◌+◌, ◌≤◌, IfOk};
 ghost use Rattle.std.proofs.Math.Option.{Option};
 ghost use Rattle.bytes_format.proofs.Formats.{list_of};
 ghost use Rattle.bytes_bundle.specs.Held.{Is, Holds};
 ghost use Rattle.image_bound.specs.Columns.{bound_column_ref};
 ghost use Rattle.image_bound.specs.Layout.{bound_statement};
 ghost use Rattle.image_catalogue.specs.Layout.{table, catalogue};
-ghost use Rattle.bind_where.specs.Short.{AtMost};
 ghost use Rattle.bind_where.specs.There.{ShortCondition};
 ghost use Rattle.bind_table.specs.Short.{ShortText};
 ghost use Rattle.bind_table.specs.Told.{sized, ResolvedAs};
@@ -22,7 +21,7 @@ ghost use Rattle.bind_select.specs.Entries.{column_entries};
 ghost use Rattle.bind_select.specs.Selects.{selected_table, selected_rows, Filter, added};
 ghost use Rattle.bind_select.specs.Within.{QueryWithin, SelectWithin, ItemsWithin, ItemWithin};
 
-use bind_table::{Measured, Resolved, refuse, resolve_direct_table, unresolved};
+use bind_table::{Resolved, resolve_direct_table, unresolved};
 use bind_table_ref::table_size;
 use bind_where::filter_size;
 use catalogue_lookup::{Named, find_column};
@@ -35,7 +34,7 @@ use image_select::{
     body_code, body_of, column_of, condition_of, from_code, from_of, has_clauses, has_features,
     item_code, items_of, select_of, table_of,
 };
-use rules::Class;
+use rules::{Class, Refusal};
 
 // The one table that a SELECT reads, which has no clause that is not supported.
 pub fn selected_table(c: &[u8], s: &[u8]) -> Resolved
@@ -91,41 +90,45 @@ pub fn column_called(t: &[u8], n: &[u8]) -> Named
 }
 
 // What a column adds that is called by its name.
-fn column_size(t: &[u8], n: &[u8]) -> Measured
+fn column_size(t: &[u8], n: &[u8]) -> Result<usize, Refusal>
     requires { Is table t.now × (Is layout.name n.now × ShortText n.now) }
-    ensures few { AtMost 4296802275 result }
+    ensures few { IfOk result (λ k. k ≤ 4296802275) }
     ensures told { (v : TableSchema) (x : Name) → Holds table t.now v → Holds layout.name n.now x → result ≡ added (item v (column x)) }
 {
     match column_called(t, n) {
         Named::Is(c) => {
             let start = c.start;
             let end = c.end;
-            Measured::Is(entry_len(end - start))
+            Ok(entry_len(end - start))
         }
-        Named::Nothing => refuse(Class::SchemaMismatch),
+        Named::Nothing => Err(Refusal {
+            class: Class::SchemaMismatch,
+        }),
     }
 }
 
 // What an item adds: `*` all columns of the table, a name its column.
-fn item_size(t: &[u8], i: &[u8]) -> Measured
+fn item_size(t: &[u8], i: &[u8]) -> Result<usize, Refusal>
     requires { Is table t.now × ItemWithin i.now }
-    ensures few { AtMost 4296802275 result }
+    ensures few { IfOk result (λ k. k ≤ 4296802275) }
     ensures told { (v : TableSchema) (x : Item) → Holds table t.now v → Holds layout.item i.now x → result ≡ added (item v x) }
 {
     let code = item_code(i);
     if code == 0 {
-        return refuse(Class::UnsupportedSql);
+        return Err(Refusal {
+            class: Class::UnsupportedSql,
+        });
     }
     if code == 1 {
-        return Measured::Is(columns_size(columns(t)));
+        return Ok(columns_size(columns(t)));
     }
     column_size(t, column_of(i))
 }
 
 // How long the list of the bound columns is.
-fn projection_size(t: &[u8], s: &[u8]) -> Measured
+fn projection_size(t: &[u8], s: &[u8]) -> Result<usize, Refusal>
     requires { Is table t.now × ItemsWithin s.now }
-    ensures few { AtMost 274995345604 result }
+    ensures few { IfOk result (λ k. k ≤ 274995345604) }
     ensures told { (v : TableSchema) (xs : List Item) → Holds table t.now v → Holds (list_of 2 layout.item) s.now xs
         → result ≡ sized (list_of 4 bound_column_ref) (projection v xs) }
 {
@@ -135,65 +138,58 @@ fn projection_size(t: &[u8], s: &[u8]) -> Measured
     let mut i = 0;
     while i < n {
         let end = bytes_bundle::next(s, 2, i, at);
-        match item_size(t, &s[at..end]) {
-            Measured::Is(k) => {
-                sum += k;
-            }
-            Measured::Refused(r) => {
-                return Measured::Refused(r);
-            }
-        }
+        sum += item_size(t, &s[at..end])?;
         at = end;
         i += 1;
     }
-    Measured::Is(sum)
+    Ok(sum)
 }
 
 // ---- the whole
 
 // Nothing is bound where there is no condition.
-fn filter_if_there(t: &[u8], e: &[u8]) -> Measured
+fn filter_if_there(t: &[u8], e: &[u8]) -> Result<usize, Refusal>
     requires { Is table t.now × ShortCondition e.now }
-    ensures few { AtMost 4294967295 result }
+    ensures few { IfOk result (λ k. k ≤ 4294967295) }
     ensures told { (v : TableSchema) (o : Option Expr) → Holds table t.now v → Holds layout.condition e.now o
         → result ≡ sized Filter (filter_if_there v o) }
 {
     if !has_condition(e) {
-        return Measured::Is(0);
+        return Ok(0);
     }
     filter_size(t, e)
 }
 
 // How long the bound SELECT over the table t is: a code and the head of a record of three have 17 bytes.
-fn select_size(t: &[u8], s: &[u8]) -> Measured
+fn select_size(t: &[u8], s: &[u8]) -> Result<usize, Refusal>
     requires { Is table t.now × SelectWithin s.now }
     ensures { (v : TableSchema) (x : Select) → Holds table t.now v → Holds layout.select s.now x
         → result ≡ sized bound_statement (selected_rows v x) }
 {
-    match projection_size(t, items_of(s)) {
-        Measured::Is(n) => match filter_if_there(t, condition_of(s)) {
-            Measured::Is(m) => Measured::Is(17 + table_size(t) + n + m),
-            Measured::Refused(r) => Measured::Refused(r),
-        },
-        Measured::Refused(r) => Measured::Refused(r),
-    }
+    let projection = projection_size(t, items_of(s))?;
+    let filter = filter_if_there(t, condition_of(s))?;
+    Ok(17 + table_size(t) + projection + filter)
 }
 
-pub fn analyze_select(c: &[u8], q: &[u8]) -> Measured
+pub fn analyze_select(c: &[u8], q: &[u8]) -> Result<usize, Refusal>
     requires { Is catalogue c.now × QueryWithin q.now }
     ensures { (cat : Catalogue) (v : Query) → Holds catalogue c.now cat → Holds layout.selection q.now v
         → result ≡ sized bound_statement (analyze_select cat v) }
 {
     if has_clauses(q) {
-        return refuse(Class::UnsupportedSql);
+        return Err(Refusal {
+            class: Class::UnsupportedSql,
+        });
     }
     let b = body_of(q);
     if body_code(b) == 0 {
-        return refuse(Class::UnsupportedSql);
+        return Err(Refusal {
+            class: Class::UnsupportedSql,
+        });
     }
     let s = select_of(b);
     match selected_table(c, s) {
         Resolved::At(start, end) => select_size(&c[start..end], s),
-        Resolved::Refused(r) => Measured::Refused(r),
+        Resolved::Refused(r) => Err(r),
     }
 }

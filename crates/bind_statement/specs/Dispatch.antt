@@ -8,6 +8,7 @@ use Rattle.bytes_format.specs.Format.{Format}
 use Rattle.bytes_bundle.specs.Held.{Is, Holds, held, held_once}
 use Rattle.bytes_bundle.specs.Looks.{inside_is}
 use Rattle.image_bound.specs.Layout.{bound_statement}
+use Rattle.rules.specs.declared.Refusal.{Refusal}
 use Rattle.rules.specs.declared.Class.TheVariants.{UnsupportedSql}
 use Rattle.rules.specs.Analyze.{analyze_create_table, analyze_insert, analyze_select, analyze_update, analyze_delete, analyze_kind, analyze}
 use Rattle.rules.specs.Answers.{Answer, given, refuse, refuse_if, ◌>>◌}
@@ -41,7 +42,7 @@ use Rattle.bind_insert.specs.Within.{InsertWithin}
 use Rattle.bind_select.specs.Within.{QueryWithin}
 use Rattle.bind_update.specs.Within.{Limited}
 use Rattle.bind_delete.specs.Within.{DeleteWithin}
-use Rattle.bind_table.specs.declared.Measured.{Measured}
+use Rattle.std.specs.Prelude.{Result}
 use Rattle.bind_table.specs.Told.{sized}
 use Rattle.bind_table.specs.Steps.{sized_as}
 use Rattle.bind_table.specs.Room.{Bindable}
@@ -124,7 +125,7 @@ module _ {A : Type 0} {f : Format A} {make : A → Kind} {s t : List ℕ} (k : B
     behind_rule cat v h = ap (analyze_kind cat) (k.of v h).2 ∙ e cat (k.of v h).0
 
     -- what was measured of it was measured of the statement
-    pub behind_sized : {m : Measured} (cat : Catalogue) (v : Statement) → Holds statement s v → ((a : A) → Holds f t a → m ≡ sized bound_statement (rule cat a))
+    pub behind_sized : {m : Result ℕ Refusal} (cat : Catalogue) (v : Statement) → Holds statement s v → ((a : A) → Holds f t a → m ≡ sized bound_statement (rule cat a))
         → m ≡ sized bound_statement (by_kind cat v)
     behind_sized cat v h says = sized_as bound_statement (behind_rule cat v h) (says (k.of v h).0 (k.of v h).1)
 

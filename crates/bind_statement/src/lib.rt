@@ -19,12 +19,11 @@ use bind_create::analyze_create_table;
 use bind_delete::analyze_delete;
 use bind_insert::analyze_insert;
 use bind_select::analyze_select;
-use bind_table::{Measured, refuse};
 use bind_update::analyze_update;
-use rules::Class;
+use rules::{Class, Refusal};
 use transactions::{analyze_rollback, analyze_unmarked};
 
-fn analyze_kind(c: &[u8], s: &[u8]) -> Measured
+fn analyze_kind(c: &[u8], s: &[u8]) -> Result<usize, Refusal>
     requires { Is catalogue c.now × StatementWithin s.now }
     ensures { (cat : Catalogue) (v : Statement) → Holds catalogue c.now cat → Holds statement s.now v
         → result ≡ sized bound_statement (by_kind cat v) }
@@ -40,18 +39,20 @@ fn analyze_kind(c: &[u8], s: &[u8]) -> Measured
         6 => analyze_unmarked(body),
         7 => analyze_rollback(body),
         8 => analyze_unmarked(body),
-        _ => refuse(Class::UnsupportedSql),
+        _ => Err(Refusal {
+            class: Class::UnsupportedSql,
+        }),
     }
 }
 
 // SHOW TRANSACTIONS is told by the text alone, before the kind is looked at.
-pub fn analyze(c: &[u8], s: &[u8]) -> Measured
+pub fn analyze(c: &[u8], s: &[u8]) -> Result<usize, Refusal>
     requires { Is catalogue c.now × StatementWithin s.now }
     ensures { (cat : Catalogue) (v : Statement) → Holds catalogue c.now cat → Holds statement s.now v
         → result ≡ sized bound_statement (rule.analyze cat v) }
 {
     if text_trim::is_show_transactions(image_statement::raw_of(s)) {
-        return Measured::Is(1);
+        return Ok(1);
     }
     analyze_kind(c, s)
 }

@@ -3,10 +3,11 @@
 -- `sized_refused`.
 -- Assumes nothing.
 use Rattle.std.proofs.Math.Path.{◌≡◌, ap}
-use Rattle.std.specs.Prelude.{refl, Bool, true, false, List, ℕ}
+use Rattle.std.specs.Prelude.{refl, Bool, true, false, List, ℕ, Result, Ok, Err, IsErrAnd}
 use Rattle.std.proofs.Common.{sym, ◌∙◌, subst, arith}
 use Rattle.std.proofs.Math.Option.{Option, none, some}
 use Rattle.std.proofs.Math.ListN.{length}
+use Rattle.std.proofs.lemmas.Result.{err_from_is_err_and}
 use Rattle.bytes_format.specs.Format.{Format}
 use Rattle.image_catalogue.specs.Layout.{table}
 use Rattle.catalogue_lookup.specs.Finds.{LiesAs}
@@ -15,8 +16,6 @@ use Rattle.rules.specs.declared.Refusal.{Refusal}
 use Rattle.rules.specs.Answers.{Answer, given, refused, refuse_if, found, ◌>>=◌, ◌>>◌, Verdict, fine, flaw, judged}
 use Rattle.rules.specs.Tables.{TableSchema}
 use Rattle.rules.proofs.Theorems.Answered.{mapped}
-use Rattle.bind_table.specs.declared.Measured.{Measured}
-use Rattle.bind_table.specs.declared.Measured.TheVariants as measured
 use Rattle.bind_table.specs.declared.Resolved.{Resolved}
 use Rattle.bind_table.specs.declared.Resolved.TheVariants as resolved
 use Rattle.bind_table.specs.Told.{told, sized, ResolvedAs}
@@ -74,17 +73,25 @@ module _ {A B : Type 0} {j : Verdict A} (b : Answer B) where
 
 module _ {A : Type 0} (f : Format A) where
   -- what is answered at the end of a chain
-  pub sized_given : {a : Answer A} {v : A} {n : ℕ} → a ≡ given v → n ≡ length (f.write v) → measured.Is n ≡ sized f a
+  pub sized_given : {a : Answer A} {v : A} {n : ℕ} → a ≡ given v → n ≡ length (f.write v) → Ok n ≡ sized f a
   unfolding sized
-  sized_given e h = ap measured.Is h ∙ ap (λ (x : Answer A). told (mapped (λ v. length (f.write v)) x)) (sym e)
+  sized_given e h = ap Ok h ∙ ap (λ (x : Answer A). told (mapped (λ v. length (f.write v)) x)) (sym e)
 
-  pub sized_refused : {a : Answer A} {r : Refusal} → a ≡ refused r → measured.Refused r ≡ sized f a
+  pub sized_refused : {a : Answer A} {r : Refusal} → a ≡ refused r → Err r ≡ sized f a
   unfolding sized
   sized_refused e = ap (λ (x : Answer A). told (mapped (λ v. length (f.write v)) x)) (sym e)
 
   -- what was measured of the rest is what was measured of all
-  pub sized_as : {m : Measured} {a b : Answer A} → a ≡ b → m ≡ sized f b → m ≡ sized f a
+  pub sized_as : {m : Result ℕ Refusal} {a b : Answer A} → a ≡ b → m ≡ sized f b → m ≡ sized f a
   sized_as e h = h ∙ ap (sized f) (sym e)
+
+-- a `?` that meets a refusal answers with it
+pub handed_on : {A E : Type 0} {m : Result A E} {r : E} → IsErrAnd m (λ (x : E). x ≡ r) → m ≡ Err r
+handed_on {m = m} h = let p = err_from_is_err_and m h in p.1 ∙ ap Err p.2
+
+module _ {A : Type 0} (f : Format A) where
+  pub sized_handed : {m : Result ℕ Refusal} {a : Answer A} {r : Refusal} → IsErrAnd m (λ (x : Refusal). x ≡ r) → a ≡ refused r → m ≡ sized f a
+  sized_handed h e = handed_on h ∙ sized_refused f e
 
 -- an answer gave something that is n bytes long
 pub record Sized {A : Type 0} (f : Format A) (a : Answer A) (n : ℕ) : Type 0 where
@@ -93,20 +100,20 @@ pub record Sized {A : Type 0} (f : Format A) (a : Answer A) (n : ℕ) : Type 0 w
   pub long : n ≡ length (f.write value)
 
 -- what a callee that measures has said, by the case that it answered
-module _ {A : Type 0} (f : Format A) {m : Measured} where
-  pub sized_is : {a : Answer A} {n : ℕ} → m ≡ sized f a → m ≡ measured.Is n → Sized f a n
+module _ {A : Type 0} (f : Format A) {m : Result ℕ Refusal} where
+  pub sized_is : {a : Answer A} {n : ℕ} → m ≡ sized f a → m ≡ Ok n → Sized f a n
   unfolding sized
   sized_is {a} {n} e h = go a (sym h ∙ e)
     where
-      go : (a : Answer A) → measured.Is n ≡ told (mapped (λ v. length (f.write v)) a) → Sized f a n
+      go : (a : Answer A) → Ok n ≡ told (mapped (λ v. length (f.write v)) a) → Sized f a n
       go (given v) e = record { value = v; gives = refl; long = cc }
       go (refused r) e = let z : ◌≡◌ {A = ℕ} 0 1 = cc in absurd (omega arith)
 
-  pub sized_off : {a : Answer A} {r : Refusal} → m ≡ sized f a → m ≡ measured.Refused r → a ≡ refused r
+  pub sized_off : {a : Answer A} {r : Refusal} → m ≡ sized f a → m ≡ Err r → a ≡ refused r
   unfolding sized
   sized_off {a} {r} e h = go a (sym h ∙ e)
     where
-      go : (a : Answer A) → measured.Refused r ≡ told (mapped (λ v. length (f.write v)) a) → a ≡ refused r
+      go : (a : Answer A) → Err r ≡ told (mapped (λ v. length (f.write v)) a) → a ≡ refused r
       go (given v) e = let z : ◌≡◌ {A = ℕ} 0 1 = cc in absurd (omega arith)
       go (refused q) e = cc
 

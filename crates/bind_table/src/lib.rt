@@ -11,7 +11,6 @@ ghost use Rattle.rules.specs.Analyze.{resolve_direct_table};
 ghost use Rattle.rules.specs.Names.{canonical};
 ghost use Rattle.rules.specs.Statements.{Name, ObjectName, TableWithJoins};
 ghost use Rattle.rules.specs.Tables.{Catalogue};
-ghost use Rattle.bind_table.specs.declared.Measured.TheVariants as measured;
 ghost use Rattle.bind_table.specs.declared.Resolved.TheVariants as resolved;
 ghost use Rattle.bind_table.specs.Told.{sized, ResolvedAs};
 ghost use Rattle.bind_table.specs.Steps.{classed};
@@ -25,24 +24,11 @@ use image_parts::table::{
 };
 use rules::{Class, Refusal};
 
-// The length of a part of the bound statement's image, or the refusal. The image is measured before a byte of it is written.
-#[derive(Clone, Copy)]
-pub enum Measured {
-    Is(usize),
-    Refused(Refusal),
-}
-
 // Where a table begins and ends in the catalogue's image, or the refusal.
 #[derive(Clone, Copy)]
 pub enum Resolved {
     At(usize, usize),
     Refused(Refusal),
-}
-
-pub fn refuse(class: Class) -> Measured
-    ensures { result ≡ measured.Refused (classed class) }
-{
-    Measured::Refused(Refusal { class })
 }
 
 pub fn unresolved(class: Class) -> Resolved
@@ -94,17 +80,22 @@ pub fn resolve_direct_table(c: &[u8], w: &[u8]) -> Resolved
 }
 
 // How long the name of a table to be made is: a plain one, of no table that is there.
-pub fn new_table_name(c: &[u8], n: &[u8]) -> Measured
+// A part of the bound statement's image is measured before a byte of it is written.
+pub fn new_table_name(c: &[u8], n: &[u8]) -> Result<usize, Refusal>
     requires { Is (list_of 2 table) c.now × (Is object_name n.now × ShortName n.now) }
     ensures { (cat : Catalogue) (o : ObjectName) → Holds (list_of 2 table) c.now cat → Holds object_name n.now o
         → result ≡ sized text (new_name cat o) }
 {
     if object_name_code(n) == 0 {
-        return refuse(Class::UnsupportedSql);
+        return Err(Refusal {
+            class: Class::UnsupportedSql,
+        });
     }
     let name = only_name(n);
     match find_named(c, name) {
-        Found::At(_, _) => refuse(Class::ConstraintViolation),
-        Found::Nothing => Measured::Is(name_text(name).len()),
+        Found::At(_, _) => Err(Refusal {
+            class: Class::ConstraintViolation,
+        }),
+        Found::Nothing => Ok(name_text(name).len()),
     }
 }

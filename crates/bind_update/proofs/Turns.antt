@@ -12,8 +12,7 @@ use Rattle.bind_repeats.specs.declared.Repeat.{Repeat}
 use Rattle.bind_repeats.specs.declared.Of.TheVariants as of
 use Rattle.bind_repeats.specs.Repeats.{is_at, first_repeated}
 use Rattle.bind_repeats.specs.Entries.{FindsRepeat}
-use Rattle.bind_table.specs.declared.Measured.{Measured}
-use Rattle.bind_table.specs.declared.Measured.TheVariants as measured
+use Rattle.std.specs.Prelude.{Result, Ok, Err}
 use Rattle.bind_table.specs.Steps.{sized_given, sized_is, sized_off}
 use Rattle.bind_table.specs.Told.{sized}
 use Rattle.rules.specs.declared.Refusal.{Refusal}
@@ -38,11 +37,11 @@ pub measuring_none : {t s : List ℕ} → Measuring t s 0 4
 measuring_none = record { at = λ v xs hv hs. summed_none v xs }
 
 -- m is what was measured of the assignment p; b tells whether it is repeated
-abbrev pub Judges : List ℕ → List ℕ → Bool → Measured → Type 0
+abbrev pub Judges : List ℕ → List ℕ → Bool → Result ℕ Refusal → Type 0
 Judges t p b m = (v : TableSchema) (x : Assignment) → Holds table t v → Holds assignment p x → m ≡ sized layout.assignment (judge_assignment b v x)
 
 module _ {t s : List ℕ} {i sum : ℕ} (o : Sound t) (g : Measuring t s i sum) {place : Repeat} (f : FindsRepeat of.Targets s place) where
-  module _ {at e : ℕ} (d : Stepped 2 s i at e) {b : Bool} (r : b ≡ is_at i place) {m : Measured} (j : Judges t (take (e - at) (drop at s)) b m) where
+  module _ {at e : ℕ} (d : Stepped 2 s i at e) {b : Bool} (r : b ≡ is_at i place) {m : Result ℕ Refusal} (j : Judges t (take (e - at) (drop at s)) b m) where
     -- what was measured, at the place that the search for repeats found
     judges : (v : TableSchema) (xs : List Assignment) → Holds table t v → (hs : Holds (list_of 2 assignment) s xs)
         → m ≡ sized layout.assignment (judge_assignment (is_at i (first_repeated (names xs))) v (turn {f = assignment} d hs).value)
@@ -50,12 +49,12 @@ module _ {t s : List ℕ} {i sum : ℕ} (o : Sound t) (g : Measuring t s i sum) 
         let w = turn {f = assignment} d hs in
         j v w.value hv w.holds ∙ ap (λ (y : Bool). sized layout.assignment (judge_assignment y v w.value)) (r ∙ ap (is_at i) (f xs hs))
 
-    pub measuring_off : {q : Refusal} → m ≡ measured.Refused q → (v : TableSchema) (xs : List Assignment) → Holds table t v → Holds (list_of 2 assignment) s xs
+    pub measuring_off : {q : Refusal} → m ≡ Err q → (v : TableSchema) (xs : List Assignment) → Holds table t v → Holds (list_of 2 assignment) s xs
         → analyze.assignments v [] xs ≡ refused q
     measuring_off h v xs hv hs =
         going_off (o.sound v hv) (g.at v xs hv hs).going (turn {f = assignment} d hs).rest (sized_off layout.assignment (judges v xs hv hs) h)
 
-    pub measuring_on : {k : ℕ} → m ≡ measured.Is k → Measuring t s (i + 1) (sum + (4 + k))
+    pub measuring_on : {k : ℕ} → m ≡ Ok k → Measuring t s (i + 1) (sum + (4 + k))
     measuring_on h = record {
       at = λ v xs hv hs.
           let w = sized_is layout.assignment (judges v xs hv hs) h in
@@ -64,7 +63,7 @@ module _ {t s : List ℕ} {i sum : ℕ} (o : Sound t) (g : Measuring t s i sum) 
 
 -- no assignment is left
 pub measuring_end : {t s : List ℕ} {i sum : ℕ} → Measuring t s i sum → {n at : ℕ} → Along s n i at → n ≤ i → (v : TableSchema) (xs : List Assignment)
-    → Holds table t v → Holds (list_of 2 assignment) s xs → measured.Is sum ≡ sized (list_of 4 layout.assignment) (analyze.assignments v [] xs)
+    → Holds table t v → Holds (list_of 2 assignment) s xs → Ok sum ≡ sized (list_of 4 layout.assignment) (analyze.assignments v [] xs)
 measuring_end {s = s} g a l v xs hv hs =
     let w = g.at v xs hv hs in
     sized_given (list_of 4 layout.assignment) (going_end w.going (omega (arith, a.count, list_count assignment s hs))) w.long

@@ -1,7 +1,7 @@
 // UPDATE over a catalogue: its assignments in their order, then its condition.
 #![tactic(auto)]
 
-ghost use Rattle.std.specs.Prelude.{◌≡◌, List, []};
+ghost use Rattle.std.specs.Prelude.{◌≡◌, ◌≤◌, List, [], IfOk};
 ghost use Rattle.bytes_format.proofs.Formats.{list_of};
 ghost use Rattle.bytes_bundle.specs.Held.{Is, Holds};
 ghost use Rattle.image_bound.specs.Expression.{bound_expression};
@@ -11,7 +11,7 @@ ghost use Rattle.catalogue_lookup.specs.Finds.{ColumnBound};
 ghost use Rattle.image_catalogue.specs.Layout.{table, catalogue};
 ghost use Rattle.image_expression.specs.Expression.{expression};
 ghost use Rattle.image_parts.specs.Layout.{assignment_target, assignment, updating};
-ghost use Rattle.bind_where.specs.Short.{ShortExpression, AtMost};
+ghost use Rattle.bind_where.specs.Short.{ShortExpression};
 ghost use Rattle.bind_repeats.specs.Entries.{target_in, ShortIn};
 ghost use Rattle.bind_table.specs.Told.{sized};
 ghost use Rattle.rules.specs.Analyze as analyze;
@@ -27,7 +27,7 @@ ghost use Rattle.bind_update.specs.Updated.{update_table, Sound};
 use bind_expression::{Sized, expression_size};
 use bind_fits::{Fit, expression_fit};
 use bind_repeats::{Of, first_repeated, is_at};
-use bind_table::{Measured, Resolved, refuse, resolve_direct_table};
+use bind_table::{Resolved, resolve_direct_table};
 use bind_table_ref::table_size;
 use bind_where::filter_size;
 use catalogue_lookup::{Column, Named, find_column, in_key};
@@ -39,7 +39,7 @@ use image_update::{
     assignments, condition_of, has_conflict, has_from, has_returning, table_of, target_code,
     target_name, target_of, value_of,
 };
-use rules::{Class, DataType};
+use rules::{Class, DataType, Refusal};
 
 // The column that a target stands for.
 #[derive(Clone, Copy)]
@@ -68,62 +68,64 @@ pub fn target_column(t: &[u8], g: &[u8]) -> Targeted
 }
 
 // How long the image of a value is, which must fit its column.
-fn value_size(t: &[u8], e: &[u8], ty: DataType, nullable: bool) -> Measured
+fn value_size(t: &[u8], e: &[u8], ty: DataType, nullable: bool) -> Result<usize, Refusal>
     requires { Is table t.now × ShortExpression e.now }
-    ensures few { AtMost 4294967295 result }
+    ensures few { IfOk result (λ k. k ≤ 4294967295) }
     ensures told { (v : TableSchema) (x : Expr) (c : BoundColumnRef) → Holds table t.now v → Holds expression e.now x
         → c.ty ≡ ty → c.nullable ≡ nullable → result ≡ sized bound_expression (fitting_value v c x) }
 {
     match expression_size(t, e) {
         Sized::Is(mark, n) => match expression_fit(mark, ty, nullable) {
-            Fit::Fine => Measured::Is(n),
-            Fit::Flaw(class) => refuse(class),
+            Fit::Fine => Ok(n),
+            Fit::Flaw(class) => Err(Refusal { class }),
         },
-        Sized::Refused(r) => Measured::Refused(r),
+        Sized::Refused(r) => Err(r),
     }
 }
 
 // How long the image of an assignment to a column is, which must be outside the key: a record of the column and the value.
-fn assign_size(t: &[u8], e: &[u8], column: Column) -> Measured
+fn assign_size(t: &[u8], e: &[u8], column: Column) -> Result<usize, Refusal>
     requires { Is table t.now × (ShortExpression e.now × ShortColumn t.now column) }
-    ensures few { AtMost 4294967500 result }
+    ensures few { IfOk result (λ k. k ≤ 4294967500) }
     ensures told { (v : TableSchema) (x : Expr) (c : BoundColumnRef) → Holds table t.now v → Holds expression e.now x
         → ColumnBound t.now column c → result ≡ sized layout.assignment (assign_to v c x) }
 {
     let id = column.id;
     if in_key(t, id) {
-        return refuse(Class::ConstraintViolation);
+        return Err(Refusal {
+            class: Class::ConstraintViolation,
+        });
     }
     let ty = column.ty;
     let null = column.nullable;
-    match value_size(t, e, ty, null) {
-        Measured::Is(n) => Measured::Is(12 + column_ref_len(column.end - column.start) + n),
-        Measured::Refused(r) => Measured::Refused(r),
-    }
+    let n = value_size(t, e, ty, null)?;
+    Ok(12 + column_ref_len(column.end - column.start) + n)
 }
 
 // One assignment; `repeated`: its target is an earlier one's.
-fn assignment_size(t: &[u8], a: &[u8], repeated: bool) -> Measured
+fn assignment_size(t: &[u8], a: &[u8], repeated: bool) -> Result<usize, Refusal>
     requires { Is table t.now × ShortAssignment a.now }
-    ensures few { AtMost 4294967500 result }
+    ensures few { IfOk result (λ k. k ≤ 4294967500) }
     ensures told { (v : TableSchema) (x : Assignment) → Holds table t.now v → Holds assignment a.now x
         → result ≡ sized layout.assignment (judge_assignment repeated v x) }
 {
     match target_column(t, target_of(a)) {
         Targeted::Is(c) => {
             if repeated {
-                return refuse(Class::ConstraintViolation);
+                return Err(Refusal {
+                    class: Class::ConstraintViolation,
+                });
             }
             assign_size(t, value_of(a), c)
         }
-        Targeted::Refused(class) => refuse(class),
+        Targeted::Refused(class) => Err(Refusal { class }),
     }
 }
 
 // The assignments in their turn. Two names of columns are one column exactly if they are one name.
-fn assignments_size(t: &[u8], s: &[u8]) -> Measured
+fn assignments_size(t: &[u8], s: &[u8]) -> Result<usize, Refusal>
     requires { Sound t.now × ShortAssignments s.now }
-    ensures few { AtMost 1000000000000 result }
+    ensures few { IfOk result (λ k. k ≤ 1000000000000) }
     ensures told { (v : TableSchema) (xs : List Assignment) → Holds table t.now v → Holds (list_of 2 assignment) s.now xs
         → result ≡ sized (list_of 4 layout.assignment) (analyze.assignments v [] xs) }
 {
@@ -134,62 +136,61 @@ fn assignments_size(t: &[u8], s: &[u8]) -> Measured
     let mut sum = count_len();
     while i < n {
         let end = bytes_bundle::next(s, 2, i, at);
-        match assignment_size(t, &s[at..end], is_at(place, i)) {
-            Measured::Is(k) => {
-                sum += count_len() + k;
-            }
-            Measured::Refused(r) => {
-                return Measured::Refused(r);
-            }
-        }
+        sum += count_len() + assignment_size(t, &s[at..end], is_at(place, i))?;
         at = end;
         i += 1;
     }
-    Measured::Is(sum)
+    Ok(sum)
 }
 
 // Over its table: a code, and a record of the table, the assignments and the condition.
-fn update_size(t: &[u8], list: &[u8], w: &[u8]) -> Measured
+fn update_size(t: &[u8], list: &[u8], w: &[u8]) -> Result<usize, Refusal>
     requires { Sound t.now × (ShortAssignments list.now × ShortExpression w.now) }
     ensures { (v : TableSchema) (xs : List Assignment) (x : Expr) → Holds table t.now v
         → Holds (list_of 2 assignment) list.now xs → Holds expression w.now x → result ≡ sized bound_statement (update_table v xs x) }
 {
-    match assignments_size(t, list) {
-        Measured::Is(a) => match filter_size(t, w) {
-            Measured::Is(f) => Measured::Is(17 + table_size(t) + a + f),
-            Measured::Refused(r) => Measured::Refused(r),
-        },
-        Measured::Refused(r) => Measured::Refused(r),
-    }
+    let assigned = assignments_size(t, list)?;
+    let filter = filter_size(t, w)?;
+    Ok(17 + table_size(t) + assigned + filter)
 }
 
 // How long the image of the bound UPDATE is, or the first refusal.
-pub fn analyze_update(c: &[u8], u: &[u8]) -> Measured
+pub fn analyze_update(c: &[u8], u: &[u8]) -> Result<usize, Refusal>
     requires { Is catalogue c.now × (Is updating u.now × Limited u.now) }
     ensures { (cat : Catalogue) (v : Update) → Holds catalogue c.now cat → Holds updating u.now v
         → result ≡ sized bound_statement (analyze_update cat v) }
 {
     if has_from(u) {
-        return refuse(Class::UnsupportedSql);
+        return Err(Refusal {
+            class: Class::UnsupportedSql,
+        });
     }
     if has_returning(u) {
-        return refuse(Class::UnsupportedSql);
+        return Err(Refusal {
+            class: Class::UnsupportedSql,
+        });
     }
     if has_conflict(u) {
-        return refuse(Class::UnsupportedSql);
+        return Err(Refusal {
+            class: Class::UnsupportedSql,
+        });
     }
     let list = assignments(u);
     if bytes_bundle::parts(list, 2) == 0 {
-        return refuse(Class::InvalidArgument);
+        return Err(Refusal {
+            class: Class::InvalidArgument,
+        });
     }
     match resolve_direct_table(c, table_of(u)) {
         Resolved::At(start, end) => {
             let w = condition_of(u);
             if !has_condition(w) {
-                return refuse(Class::UnsupportedSql);
+                return Err(Refusal {
+                    class: Class::UnsupportedSql,
+                });
             }
             update_size(&c[start..end], list, w)
         }
-        Resolved::Refused(r) => Measured::Refused(r),
+        Resolved::Refused(r) => Err(r),
     }
 }

@@ -1,7 +1,7 @@
 -- Expressions with names within the limit, as the code wants them, and lengths that no sum of a statement's parts lets wrap.
 -- Assumes nothing.
 use Rattle.std.specs.Prelude.{◌≡◌, true, List, ℕ, ◌≤◌, get_or}
-use Rattle.std.proofs.Common.{sym, ap, ◌∙◌, subst, arith, Fits}
+use Rattle.std.proofs.Common.{sym, ap, ◌∙◌, arith, Fits}
 use Rattle.std.proofs.Math.Option.{some}
 use Rattle.std.specs.Int.{w8}
 use Rattle.bytes_wire.specs.Le.{Bytes}
@@ -16,10 +16,7 @@ use Rattle.bind_expression.specs.declared.Sized.TheVariants as size
 use Rattle.bind_expression.specs.Marks.{NamesWithin, Sizes, sized_is}
 use Rattle.bind_expression.specs.Names.{names_within}
 use Rattle.bind_expression.specs.Small.{short_run}
-use Rattle.bind_table.specs.declared.Measured.{Measured}
-use Rattle.bind_table.specs.declared.Measured.TheVariants as measured
 use Rattle.rules.specs.declared.Mark.{Mark}
-use Rattle.rules.specs.declared.Refusal.{Refusal}
 use Rattle.rules.specs.Limits.{expression_names}
 use Rattle.rules.specs.Lists.{all}
 use Rattle.rules.specs.Statements.{Expr}
@@ -47,18 +44,6 @@ short_condition {s} {x} h e = short_expression (condition_holds s x h) e
 -- as the marker wants them
 pub short_names : {s : List ℕ} → Bytes s → ShortExpression s → NamesWithin s
 short_names b h = held h.is (λ x k. names_within b k (h.short x k))
-
--- ---- a length of at most n bytes, if it is one
-
-abbrev pub AtMost : ℕ → Measured → Type 0
-AtMost n (measured.Is k) = k ≤ n
-AtMost n (measured.Refused r) = Unit {0}
-
-pub at_most : {n k : ℕ} {m : Measured} → AtMost n m → m ≡ measured.Is k → k ≤ n
-at_most {n} h e = subst (AtMost n) e h
-
-pub at_most_off : (n : ℕ) {m : Measured} {r : Refusal} → m ≡ measured.Refused r → AtMost n m
-at_most_off n e = subst (AtMost n) (sym e) tt
 
 -- what the marker measures fits 4 bytes
 pub size_few : (t e : List ℕ) {r : Sized} {m : Mark} {n : ℕ} → Bytes e → Is table t → ShortExpression e → Sizes t e r → r ≡ size.Is m n → n ≤ 4294967295

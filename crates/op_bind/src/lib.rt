@@ -6,7 +6,6 @@ ghost use Rattle.op_reply.specs.Leaves.{Leaves};
 ghost use Rattle.op_received.specs.Entry.{bind_bytes};
 
 use bind_statement::analyze;
-use bind_table::Measured;
 use op_put::put;
 use op_received::received;
 use op_reply::{Reply, class_number, refused};
@@ -20,7 +19,7 @@ pub fn bind(statement: &[u8], catalogue: &[u8], out: &mut [u8]) -> Reply
         return refused(number);
     }
     match analyze(catalogue, statement) {
-        Measured::Is(size) => put(statement, catalogue, out, size),
-        Measured::Refused(r) => refused(class_number(r)),
+        Ok(size) => put(statement, catalogue, out, size),
+        Err(r) => refused(class_number(r)),
     }
 }

@@ -15,7 +15,7 @@ use Rattle.rules.specs.Analyze.{analyze}
 use Rattle.rules.specs.Heard.{Outcome, refuses, answers, next, class_no, heard, received, judged_statement, fitted, bind_outcome}
 use Rattle.image_parts.specs.Layout.{statement}
 use Rattle.image_catalogue.specs.Layout.{catalogue}
-use Rattle.bind_table.specs.declared.Measured.TheVariants as measured
+use Rattle.std.specs.Prelude.{Ok, Err}
 use Rattle.bind_table.specs.Told as resolving
 use Rattle.bind_table.specs.Steps.{Sized, sized_is}
 use Rattle.bind_table.specs.Room.{Bindable, bindable}
@@ -70,7 +70,7 @@ module _ (s c : List ℕ) (room : ℕ) where
 -- the bound statement's image is n bytes long
 pub record Measures (s c : List ℕ) (n : ℕ) : Type 0 where
   pub both : Received s c
-  pub is : measured.Is n ≡ resolving.sized bound_statement (analyze both.tables both.value)
+  pub is : Ok n ≡ resolving.sized bound_statement (analyze both.tables both.value)
 
 module _ {s c : List ℕ} {n : ℕ} (m : Measures s c n) where
   size_of : Sized bound_statement (analyze m.both.tables m.both.value) n

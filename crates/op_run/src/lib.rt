@@ -19,7 +19,7 @@ ghost use Rattle.op_run.specs.Runs.{BoundBy};
 ghost use Rattle.op_run.specs.Stands.{Stands, SomeStands};
 
 use bind_statement::analyze;
-use bind_table::{Measured, Resolved, resolve_direct_table};
+use bind_table::{Resolved, resolve_direct_table};
 use image_update::table_of;
 use op_received::received;
 use op_reply::{Reply, class_number, refused};
@@ -71,7 +71,7 @@ pub fn run<'a>(statement: &'a [u8], catalogue: &'a [u8], row: &'a [u8], out: &mu
         return refused(number);
     }
     match analyze(catalogue, statement) {
-        Measured::Is(size) => run_bound(statement, catalogue, row, out),
-        Measured::Refused(r) => refused(class_number(r)),
+        Ok(size) => run_bound(statement, catalogue, row, out),
+        Err(r) => refused(class_number(r)),
     }
 }

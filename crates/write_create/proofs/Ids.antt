@@ -25,8 +25,7 @@ use Rattle.rules.specs.Statements.{Name, ColumnDefinition}
 use Rattle.rules.proofs.Theorems.Answered.{never_given, bind_given}
 use Rattle.rules.specs.Analyze.{key_ids}
 use Rattle.image_parts.specs.Layout.{name, column_definition}
-use Rattle.bind_create.specs.declared.Place.{Place}
-use Rattle.bind_create.specs.declared.Place.TheVariants as place
+use Rattle.std.specs.Prelude as rust
 use Rattle.bind_create.specs.Defined.{schema, schemas, key_of, keys_length}
 use Rattle.bind_create.specs.Keys.{FindsColumn, ColumnFound}
 use Rattle.bind_create.specs.Within.{FewColumns}
@@ -71,8 +70,8 @@ marks_more ids k z {old} {new} h m s i l =
 -- ---- the id of a name
 
 -- the place is that of a column
-pub place_few : {s n : List ℕ} {r : Place} {i : ℕ} → FewColumns s → ShortIn name some n
-    → ((cs : List ColumnDefinition) (w : Name) → Holds (list_of 2 column_definition) s cs → Holds name n w → FindsColumn cs (canonical w) r) → r ≡ place.At i → i < 64
+pub place_few : {s n : List ℕ} {r : rust.Option ℕ} {i : ℕ} → FewColumns s → ShortIn name some n
+    → ((cs : List ColumnDefinition) (w : Name) → Holds (list_of 2 column_definition) s cs → Holds name n w → FindsColumn cs (canonical w) r) → r ≡ rust.Some i → i < 64
 place_few {s} {n} {r} {i} f q g e =
     held f.short.is (λ cs h. held q.is (λ w k.
     let c = subst (FindsColumn cs (canonical w)) e (g cs w h k) in

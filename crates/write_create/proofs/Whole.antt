@@ -34,8 +34,8 @@ use Rattle.rules.specs.Analyze.{analyze_create_table}
 use Rattle.rules.proofs.Theorems.Answered.{never_given}
 use Rattle.image_parts.specs.Layout.{object_name, column_definition, create}
 use Rattle.bind_create.specs.declared.Key.{Key}
-use Rattle.bind_create.specs.declared.Keyed.{Keyed}
-use Rattle.bind_create.specs.declared.Keyed.TheVariants as keyed
+use Rattle.std.specs.Prelude.{Result}
+use Rattle.std.specs.Prelude.{Ok, Err}
 use Rattle.bind_create.specs.Defined.{schemas, key_of, created, room_for, room_is, created_size}
 use Rattle.bind_create.specs.Keys.{KeyAt, Read, read_of, KeyRead, ReadsKey}
 use Rattle.bind_create.specs.Within.{CreateWithin, PlaceIn, KeyIn, short_table}
@@ -118,7 +118,7 @@ module _ {c s o : List ℕ} (b : Bindable create bound_statement analyze_create_
   pub place_in : PlaceIn s repeat.Nowhere
   place_in = record { is = λ v h. sym (read_distinct v (create_given b.tables v (ap (analyze_create_table b.tables) (held_once create {s = s} h b.reads) ∙ b.gives)).reads) }
 
-  module _ {r : Keyed} {key : Key} (f : (v : CreateTable) → Holds create s v → ReadsKey v r) (e : r ≡ keyed.Is key) where
+  module _ {r : Result Key Class} {key : Key} (f : (v : CreateTable) → Holds create s v → ReadsKey v r) (e : r ≡ Ok key) where
     pub key_read : (v : CreateTable) → Holds create s v → KeyRead v key
     key_read v h = subst (ReadsKey v) e (f v h)
 
@@ -145,5 +145,5 @@ whole_wrote {v} k p q =
     (then {x = 0 ∷ []} {j = 1} (record { end = refl; is = p.is }) q)
 
 -- a refusal can't be
-pub never_refused : (cat : Catalogue) (v : CreateTable) {b : BoundStatement} {r : Keyed} {k : Class} → analyze_create_table cat v ≡ given b → r ≡ keyed.Refused k → ReadsKey v r → ⊥
+pub never_refused : (cat : Catalogue) (v : CreateTable) {b : BoundStatement} {r : Result Key Class} {k : Class} → analyze_create_table cat v ≡ given b → r ≡ Err k → ReadsKey v r → ⊥
 never_refused cat v e h f = never_given (sym (subst (ReadsKey v) h f) ∙ (create_given cat v e).reads)

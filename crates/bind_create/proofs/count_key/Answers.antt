@@ -31,7 +31,7 @@ count_names-requires c =
 pub returns-in-Nowhere : goal.returns-in-Nowhere
 returns-in-Nowhere c = λ v names h k.
     let e = subst (λ (x : Key). NamedAt v.columns v.constraints x names) c.in-Nowhere.is k.named in
-    c.refuse.ensures ∙ sym (count_none v.columns e)
+    sym (count_none v.columns e)
 
 pub returns-in-Column : goal.returns-in-Column
 returns-in-Column c = λ v names h k.

@@ -2,7 +2,7 @@
 use mathlib.Core.Path.{sym, ◌∙◌, subst}
 use Rattle.image_bound.specs.Layout.{bound_statement}
 use Rattle.bytes_bundle.specs.Held.{list_bundle, list_count}
-use Rattle.bind_table.specs.Steps.{sized_refused, sized_as}
+use Rattle.bind_table.specs.Steps.{sized_refused, sized_handed, sized_as}
 use Rattle.image_parts.specs.Layout.{column_definition}
 use Rattle.bind_create.specs.Keys.{ReadsKey}
 use Rattle.bind_create.specs.Within.{few_columns}
@@ -16,7 +16,7 @@ parts-requires c = (search rules, list_bundle column_definition (few_columns c.r
 pub returns-then-parts-eq0 : goal.returns-then-parts-eq0
 returns-then-parts-eq0 c = λ v t h e.
     let z = list_count column_definition c.columns-columns.result.now (c.columns-columns.ensures v h) ∙ sym c.parts.ensures ∙ c.if-parts-eq0.true in
-    c.refuse.ensures ∙ sized_refused bound_statement (table_empty v t (columns_empty v.columns z))
+    sized_refused bound_statement (table_empty v t (columns_empty v.columns z))
 
 pub first_repeated-requires : goal.first_repeated-requires
 first_repeated-requires c = (few_columns c.requires.0 c.columns-columns.ensures).short
@@ -25,16 +25,16 @@ pub find_key-requires : goal.find_key-requires
 find_key-requires c = (c.requires.0.is, place_in c.columns-columns.result.now c.first_repeated.ensures c.columns-columns.ensures)
 
 pub measure_keyed-requires : goal.measure_keyed-requires
-measure_keyed-requires c = (c.requires.0, key_in c.find_key.ensures c.in-Is.is, c.requires.1)
+measure_keyed-requires c = (c.requires.0, key_in c.find_key.ensures c.in_ok-key.was, c.requires.1)
 
-pub returns-in-Is : goal.returns-in-Is
-returns-in-Is c = λ v t h e.
-    let k = subst (ReadsKey v) c.in-Is.is (c.find_key.ensures v h) in
+pub returns : goal.returns
+returns c = λ v t h e.
+    let k = subst (ReadsKey v) c.in_ok-key.was (c.find_key.ensures v h) in
     let z = columns_there v.columns (λ q. c.if-parts-eq0.false (c.parts.ensures ∙ sym (list_count column_definition c.columns-columns.result.now (c.columns-columns.ensures v h)) ∙ q)) in
     sized_as bound_statement (table_on v t z k.gives) (c.measure_keyed.ensures v t k.names h e k.at)
 
-pub returns-in-Refused : goal.returns-in-Refused
-returns-in-Refused c = λ v t h e.
-    let k = subst (ReadsKey v) c.in-Refused.is (c.find_key.ensures v h) in
+pub returns-in_err-key : goal.returns-in_err-key
+returns-in_err-key c = λ v t h e.
+    let k = subst (ReadsKey v) c.in_err-key.was (c.find_key.ensures v h) in
     let z = columns_there v.columns (λ q. c.if-parts-eq0.false (c.parts.ensures ∙ sym (list_count column_definition c.columns-columns.result.now (c.columns-columns.ensures v h)) ∙ q)) in
-    c.refuse-in-Refused.ensures ∙ sized_refused bound_statement (table_off v t z k)
+    sized_handed bound_statement c.from_residual.ensures.1 (table_off v t z k)

@@ -25,7 +25,7 @@ pub is_modified-requires : goal.is_modified-requires
 is_modified-requires c = c.requires.1.0
 
 pub returns-then-is_modified : goal.returns-then-is_modified
-returns-then-is_modified c = λ cat v hc h. c.refuse.ensures ∙ sized_refused bound_statement (insert_steps cat v ∙ test_off _ _ (sym (c.is_modified.ensures v h) ∙ c.if-is_modified.true))
+returns-then-is_modified c = λ cat v hc h. sized_refused bound_statement (insert_steps cat v ∙ test_off _ _ (sym (c.is_modified.ensures v h) ∙ c.if-is_modified.true))
 
 pub table_name-requires : goal.table_name-requires
 table_name-requires c = c.requires.1.0

@@ -11,7 +11,7 @@ use Rattle.image_bound.specs.Columns.{bound_column_ref}
 use Rattle.image_bound.specs.Layout.{bound_statement}
 use Rattle.rules.specs.Lookup.{bound_table}
 use Rattle.bind_literal.specs.Scalars.{known}
-use Rattle.bind_table.specs.Steps.{sized_refused, sized_is, sized_off}
+use Rattle.bind_table.specs.Steps.{sized_refused, sized_is, sized_off, sized_handed}
 use Rattle.bind_insert_columns.specs.Columns.{Targets}
 use Rattle.bind_insert.specs.Within.{within_targets}
 use Rattle.bind_insert.specs.Inserts.{into_none, into_columns, into_rows, into_given}
@@ -35,8 +35,7 @@ parts-n-requires c = (search rules, list_bundle name (names (goal.at.parts-n-req
 
 pub returns-then-n-eq0 : goal.returns-then-n-eq0
 returns-then-n-eq0 c =
-    λ v w ht h. c.refuse.ensures
-    ∙ sized_refused bound_statement (into_none v w (list_count name c.columns-names.result.now (c.columns-names.ensures w h) ∙ sym c.parts-n.ensures ∙ c.if-n-eq0.true))
+    λ v w ht h. sized_refused bound_statement (into_none v w (list_count name c.columns-names.result.now (c.columns-names.ensures w h) ∙ sym c.parts-n.ensures ∙ c.if-n-eq0.true))
 
 pub bind_columns-requires : goal.bind_columns-requires
 bind_columns-requires c = (c.requires.0, (names (goal.at.bind_columns-requires c).After-columns-names, search rules))
@@ -51,37 +50,37 @@ pub table_ref_len-requires : goal.table_ref_len-requires
 table_ref_len-requires c = omega (arith, short (goal.at.table_ref_len-requires c).After-table_name)
 
 pub overflow_add-result : goal.overflow_add-result
-overflow_add-result c = omega (arith, short (goal.at.overflow_add-result c).After-table_name, c.table_ref_len.ensures.0, c.bind_columns.ensures.0.small _ c.in-Is.is, c.measure_rows.ensures.0.small _ c.in-Is-measure_rows.is)
+overflow_add-result c = omega (arith, short (goal.at.overflow_add-result c).After-table_name, c.table_ref_len.ensures.0)
 
-pub overflow_add-result-in-Is-measure_rows : goal.overflow_add-result-in-Is-measure_rows
-overflow_add-result-in-Is-measure_rows c = omega (arith, short (goal.at.overflow_add-result-in-Is-measure_rows c).After-table_name, c.table_ref_len.ensures.0, c.bind_columns.ensures.0.small _ c.in-Is.is, c.measure_rows.ensures.0.small _ c.in-Is-measure_rows.is)
+pub overflow_add-result-2 : goal.overflow_add-result-2
+overflow_add-result-2 c = omega (arith, short (goal.at.overflow_add-result-2 c).After-table_name, c.table_ref_len.ensures.0, c.in_ok-targets.ensures.0)
 
-pub overflow_add-result-in-Is-measure_rows-2 : goal.overflow_add-result-in-Is-measure_rows-2
-overflow_add-result-in-Is-measure_rows-2 c = omega (arith, short (goal.at.overflow_add-result-in-Is-measure_rows-2 c).After-table_name, c.table_ref_len.ensures.0, c.bind_columns.ensures.0.small _ c.in-Is.is, c.measure_rows.ensures.0.small _ c.in-Is-measure_rows.is)
+pub overflow_add-result-3 : goal.overflow_add-result-3
+overflow_add-result-3 c = omega (arith, short (goal.at.overflow_add-result-3 c).After-table_name, c.table_ref_len.ensures.0, c.in_ok-targets.ensures.0, c.in_ok-rows.ensures.0)
 
-pub returns-in-Is-measure_rows : goal.returns-in-Is-measure_rows
+pub returns : goal.returns
 unfolding bound_table
-returns-in-Is-measure_rows c =
+returns c =
     λ v w ht h.
     let l = c.columns-names.ensures w h in
-    let g = (c.bind_columns.ensures.1 v w.columns ht l).bound _ c.in-Is.is in
+    let g = (c.bind_columns.ensures.1 v w.columns ht l).bound _ c.in_ok-targets.was in
     let e = list_count name c.columns-names.result.now l in
-    let s = sized_is (list_of 4 (list_of 4 value)) {m = c.measure_rows.result} (c.measure_rows.ensures.1 v ht g.value w g.coded (c.parts-n.ensures ∙ sym e ∙ sym g.count) h) c.in-Is-measure_rows.is in
+    let s = sized_is (list_of 4 (list_of 4 value)) {m = c.measure_rows.result} (c.measure_rows.ensures.1 v ht g.value w g.coded (c.parts-n.ensures ∙ sym e ∙ sym g.count) h) c.in_ok-rows.was in
     into_given v w (λ z. c.if-n-eq0.false (c.parts-n.ensures ∙ sym e ∙ z)) g.gives s.gives (c.table_ref_len.ensures.1 (bound_table v) (sym (ap length (c.table_name.ensures v ht)))) g.long s.long
 
-pub returns-in-Refused-measure_rows : goal.returns-in-Refused-measure_rows
-returns-in-Refused-measure_rows c =
+pub returns-in_err-rows : goal.returns-in_err-rows
+returns-in_err-rows c =
     λ v w ht h.
     let l = c.columns-names.ensures w h in
-    let g = (c.bind_columns.ensures.1 v w.columns ht l).bound _ c.in-Is.is in
+    let g = (c.bind_columns.ensures.1 v w.columns ht l).bound _ c.in_ok-targets.was in
     let e = list_count name c.columns-names.result.now l in
-    let s = sized_off (list_of 4 (list_of 4 value)) {m = c.measure_rows.result} (c.measure_rows.ensures.1 v ht g.value w g.coded (c.parts-n.ensures ∙ sym e ∙ sym g.count) h) c.in-Refused-measure_rows.is in
-    sized_refused bound_statement (into_rows v w (λ z. c.if-n-eq0.false (c.parts-n.ensures ∙ sym e ∙ z)) g.gives s)
+    let s = sized_off (list_of 4 (list_of 4 value)) {m = c.measure_rows.result} (c.measure_rows.ensures.1 v ht g.value w g.coded (c.parts-n.ensures ∙ sym e ∙ sym g.count) h) c.in_err-rows.was in
+    sized_handed bound_statement c.from_residual-in_err-rows.ensures.1 (into_rows v w (λ z. c.if-n-eq0.false (c.parts-n.ensures ∙ sym e ∙ z)) g.gives s)
 
-pub returns-in-Refused : goal.returns-in-Refused
-returns-in-Refused c =
+pub returns-in_err-targets : goal.returns-in_err-targets
+returns-in_err-targets c =
     λ v w ht h.
     let l = c.columns-names.ensures w h in
     let e = list_count name c.columns-names.result.now l in
-    let s = sized_off (list_of 4 bound_column_ref) {m = c.bind_columns.result} (c.bind_columns.ensures.1 v w.columns ht l).is c.in-Refused.is in
-    sized_refused bound_statement (into_columns v w (λ z. c.if-n-eq0.false (c.parts-n.ensures ∙ sym e ∙ z)) s)
+    let s = sized_off (list_of 4 bound_column_ref) {m = c.bind_columns.result} (c.bind_columns.ensures.1 v w.columns ht l).is c.in_err-targets.was in
+    sized_handed bound_statement c.from_residual.ensures.1 (into_columns v w (λ z. c.if-n-eq0.false (c.parts-n.ensures ∙ sym e ∙ z)) s)

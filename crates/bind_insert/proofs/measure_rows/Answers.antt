@@ -6,7 +6,6 @@ use Rattle.bind_table.specs.Steps.{sized_refused, sized_as}
 use Rattle.bind_insert_columns.specs.Columns.{Targets}
 use Rattle.bind_insert.specs.Within.{within_targets}
 use Rattle.bind_insert.specs.Inserts.{rows_key, rows_null, rows_source}
-use Rattle.bind_insert_columns.specs.Small.{AtMost, refused_most}
 use Rattle.bind_insert.proofs.measure_rows.Goals.{After-columns-names}
 use Rattle.bind_insert.proofs.measure_rows.Goals as goal
 
@@ -21,8 +20,8 @@ lacks-requires c = (c.requires.0, (names (goal.at.lacks-requires c).After-column
 
 pub returns-then-lacks : goal.returns-then-lacks
 returns-then-lacks c = (
-  subst (AtMost 300000000000) (sym c.refuse.ensures) refused_most,
-  λ v ht cs w k q h. c.refuse.ensures ∙ sized_refused (list_of 4 (list_of 4 value)) (rows_key v cs w (sym (c.lacks.ensures v w.columns ht (c.columns-names.ensures w h)) ∙ c.if-lacks.true)),
+  tt,
+  λ v ht cs w k q h. sized_refused (list_of 4 (list_of 4 value)) (rows_key v cs w (sym (c.lacks.ensures v w.columns ht (c.columns-names.ensures w h)) ∙ c.if-lacks.true)),
 )
 
 pub lacks-requires-2 : goal.lacks-requires-2
@@ -30,10 +29,10 @@ lacks-requires-2 c = (c.requires.0, (names (goal.at.lacks-requires-2 c).After-co
 
 pub returns-then-lacks-2 : goal.returns-then-lacks-2
 returns-then-lacks-2 c = (
-  subst (AtMost 300000000000) (sym c.refuse-then-lacks-2.ensures) refused_most,
+  tt,
   λ v ht cs w k q h.
       let l = c.columns-names.ensures w h in
-      c.refuse-then-lacks-2.ensures ∙ sized_refused (list_of 4 (list_of 4 value)) (rows_null v cs w (sym (c.lacks.ensures v w.columns ht l) ∙ c.if-lacks.false) (sym (c.lacks-2.ensures v w.columns ht l) ∙ c.if-lacks-2.true)),
+      sized_refused (list_of 4 (list_of 4 value)) (rows_null v cs w (sym (c.lacks.ensures v w.columns ht l) ∙ c.if-lacks.false) (sym (c.lacks-2.ensures v w.columns ht l) ∙ c.if-lacks-2.true)),
 )
 
 pub source_len-requires : goal.source_len-requires

@@ -1,11 +1,10 @@
 -- `bind_insert_columns::bind_columns` meets its contract. The invariant: the columns so far are bound and their bytes stand in the array.
-use mathlib.Core.Path.{sym, ap, ◌∙◌, subst}
+use mathlib.Core.Path.{refl, sym, ap, ◌∙◌}
 use native.Mathlib.Omega.{arith}
 use lib.ListN.{length}
 use Rattle.bytes_bundle.specs.Held.{along, along_on, list_bundle}
 use Rattle.image_parts.specs.Layout.{name}
 use Rattle.bind_insert_columns.specs.Columns.{name_part, text_within, bound_off, binding, bind_repeated, bind_unknown, bind_more, bind_end}
-use Rattle.bind_insert_columns.specs.Small.{AtMost, is_most, refused_most}
 use borrow.Author.Rules.{rules}
 use Rattle.bind_insert_columns.proofs.bind_columns.Goals as goal
 
@@ -26,8 +25,8 @@ next-end-requires c = let a = c.loop-i.invariant.0 in (search rules, a.bundle, a
 
 pub returns-then-is_at : goal.returns-then-is_at
 returns-then-is_at c = (
-  subst (AtMost 10116) (sym c.refuse.ensures) refused_most,
-  λ v ns ht hs. bound_off c.refuse.ensures (bind_repeated c.loop-i.invariant.3 c.next-end.ensures c.first_repeated-place.ensures (sym c.is_at.ensures ∙ c.if-is_at.true) v ns ht hs),
+  tt,
+  λ v ns ht hs. bound_off refl (bind_repeated c.loop-i.invariant.3 c.next-end.ensures c.first_repeated-place.ensures (sym c.is_at.ensures ∙ c.if-is_at.true) v ns ht hs),
 )
 
 pub find_target-requires : goal.find_target-requires
@@ -50,8 +49,8 @@ overflow_add-total-in-Is c = omega (arith, c.column_ref_len.ensures.0, text_with
 
 pub returns-in-Nothing : goal.returns-in-Nothing
 returns-in-Nothing c = (
-  subst (AtMost 10116) (sym c.refuse-in-Nothing.ensures) refused_most,
-  λ v ns ht hs. bound_off c.refuse-in-Nothing.ensures (bind_unknown c.loop-i.invariant.3 c.next-end.ensures c.first_repeated-place.ensures (sym c.is_at.ensures ∙ c.if-is_at.false) c.find_target.ensures c.in-Nothing.is v ns ht hs),
+  tt,
+  λ v ns ht hs. bound_off refl (bind_unknown c.loop-i.invariant.3 c.next-end.ensures c.first_repeated-place.ensures (sym c.is_at.ensures ∙ c.if-is_at.false) c.find_target.ensures c.in-Nothing.is v ns ht hs),
 )
 
 pub loop-i-preserved : goal.loop-i-preserved
@@ -67,4 +66,4 @@ loop-i-preserved c =
 
 pub returns : goal.returns
 returns c =
-    (is_most (omega (arith, c.loop-i.invariant.1, c.loop-i.invariant.2, c.loop-i.invariant.0.count, c.requires.1.0.few)), bind_end c.loop-i.invariant.3 c.loop-i.invariant.0 c.loop-i-test.false)
+    (omega (arith, c.loop-i.invariant.1, c.loop-i.invariant.2, c.loop-i.invariant.0.count, c.requires.1.0.few), bind_end c.loop-i.invariant.3 c.loop-i.invariant.0 c.loop-i-test.false)

@@ -12,7 +12,6 @@ use Rattle.image_insert.specs.Held.{is_values}
 use Rattle.rules.specs.Analyze.{insert_body}
 use Rattle.bind_table.specs.Steps.{sized_refused, sized_as}
 use Rattle.bind_insert_rows.specs.Sources.{rows_in, body_other, body_row, body_empty, body_rows_lem}
-use Rattle.bind_insert_columns.specs.Small.{AtMost, refused_most}
 use borrow.Author.Rules.{rules}
 use Rattle.bind_insert_rows.proofs.body_len.Goals.{Else-not-is_values}
 use Rattle.bind_insert_rows.proofs.body_len.Goals.{Else-explicit_row}
@@ -35,8 +34,8 @@ is_values-requires c = c.requires.0
 
 pub returns-then-not-is_values : goal.returns-then-not-is_values
 returns-then-not-is_values c = (
-  subst (AtMost 300000000000) (sym c.refuse.ensures) refused_most,
-  λ cs v k q h. c.refuse.ensures ∙ sized_refused (list_of 4 (list_of 4 value)) (body_other cs v (failed (c.is_values.ensures v h) (ap not c.if-not-is_values.true))),
+  tt,
+  λ cs v k q h. sized_refused (list_of 4 (list_of 4 value)) (body_other cs v (failed (c.is_values.ensures v h) (ap not c.if-not-is_values.true))),
 )
 
 pub explicit_row-requires : goal.explicit_row-requires
@@ -44,10 +43,10 @@ explicit_row-requires c = shows (goal.at.explicit_row-requires c).Else-not-is_va
 
 pub returns-then-explicit_row : goal.returns-then-explicit_row
 returns-then-explicit_row c = (
-  subst (AtMost 300000000000) (sym c.refuse-then-explicit_row.ensures) refused_most,
+  tt,
   λ cs v k q h.
       let w = rows_in (shows (goal.at.returns-then-explicit_row c).Else-not-is_values) in
-      c.refuse-then-explicit_row.ensures ∙ sized_refused (list_of 4 (list_of 4 value)) (ap (insert_body cs) (held_once source_body h w.whole) ∙ body_row cs w.rows (sym (c.explicit_row.ensures w.explicit w.rows w.whole) ∙ c.if-explicit_row.true)),
+      sized_refused (list_of 4 (list_of 4 value)) (ap (insert_body cs) (held_once source_body h w.whole) ∙ body_row cs w.rows (sym (c.explicit_row.ensures w.explicit w.rows w.whole) ∙ c.if-explicit_row.true)),
 )
 
 pub rows_of-rows-requires : goal.rows_of-rows-requires
@@ -58,11 +57,11 @@ parts-requires c = (search rules, list_bundle (list_of 2 expression) (is_held {f
 
 pub returns-then-parts-eq0 : goal.returns-then-parts-eq0
 returns-then-parts-eq0 c = (
-  subst (AtMost 300000000000) (sym c.refuse-then-parts-eq0.ensures) refused_most,
+  tt,
   λ cs v k q h.
       let w = rows_in (shows (goal.at.returns-then-parts-eq0 c).Else-not-is_values) in
       let e : length w.rows ≡ 0 = list_count (list_of 2 expression) c.rows_of-rows.result.now (held_rows (goal.at.returns-then-parts-eq0 c).After-rows_of-rows) ∙ sym c.parts.ensures ∙ c.if-parts-eq0.true in
-      c.refuse-then-parts-eq0.ensures ∙ sized_refused (list_of 4 (list_of 4 value)) (ap (insert_body cs) (held_once source_body h w.whole) ∙ body_empty cs w.rows (plain (goal.at.returns-then-parts-eq0 c).Else-explicit_row) e),
+      sized_refused (list_of 4 (list_of 4 value)) (ap (insert_body cs) (held_once source_body h w.whole) ∙ body_empty cs w.rows (plain (goal.at.returns-then-parts-eq0 c).Else-explicit_row) e),
 )
 
 pub rows_len-requires : goal.rows_len-requires

@@ -8,4 +8,4 @@ pub returns-in-Fine : goal.returns-in-Fine
 returns-in-Fine c = sym (ap (λ (f : Fit). fit_told f c.args.n) c.in-Fine.is)
 
 pub returns-in-Flaw : goal.returns-in-Flaw
-returns-in-Flaw c = c.refuse.ensures ∙ sym (ap (λ (f : Fit). fit_told f c.args.n) c.in-Flaw.is)
+returns-in-Flaw c = sym (ap (λ (f : Fit). fit_told f c.args.n) c.in-Flaw.is)

@@ -5,7 +5,9 @@ use Rattle.bytes_bundle.specs.Held.{along, along_on, part_is, list_bundle, list_
 use Rattle.image_expression.specs.Expression.{expression}
 use Rattle.bind_literal.specs.Scalars.{known}
 use Rattle.bind_insert_rows.specs.Values.{valued_none, valued_on, valued_off, valued_end, row_on, row_off}
-use Rattle.bind_insert_columns.specs.Small.{AtMost, is_most, refused_most, part_small}
+use Rattle.std.proofs.lemmas.Result.{IfOk-from_err}
+use Rattle.bind_table.specs.Steps.{handed_on}
+use Rattle.bind_insert_columns.specs.Small.{part_small}
 use borrow.Author.Rules.{rules}
 use Rattle.bind_insert_rows.proofs.row_len.Goals as goal
 
@@ -15,8 +17,8 @@ parts-requires c = (search rules, list_bundle expression c.requires.0)
 pub returns-then-parts-n : goal.returns-then-parts-n
 returns-then-parts-n c =
     let p = c.parts.ensures in (
-      subst (AtMost 4194628) (sym c.refuse.ensures) refused_most,
-      λ cs es b q h. c.refuse.ensures ∙ row_off cs es (λ z. c.if-parts-n.true (p ∙ sym (list_count expression c.args.row.now h) ∙ z ∙ sym q)),
+      tt,
+      λ cs es b q h. row_off cs es (λ z. c.if-parts-n.true (p ∙ sym (list_count expression c.args.row.now h) ∙ z ∙ sym q)),
     )
 
 pub first-at-requires : goal.first-at-requires
@@ -37,16 +39,16 @@ value_len-requires c =
     (part_is {f = expression} d c.requires.0, omega (arith, part_small (known c.type_inv.row) c.loop-j.invariant.0.bundle d))
 
 pub overflow_add-total : goal.overflow_add-total
-overflow_add-total c = omega (arith, c.value_len.ensures.0.small _ c.in-Is.is)
+overflow_add-total c = omega (arith, c.in_ok-total.ensures.0)
 
-pub overflow_add-total-in-Is : goal.overflow_add-total-in-Is
-overflow_add-total-in-Is c = omega (arith, c.value_len.ensures.0.small _ c.in-Is.is, c.loop-j.invariant.2, c.loop-j-test.true, c.requires.1)
+pub overflow_add-total-in-loop-j : goal.overflow_add-total-in-loop-j
+overflow_add-total-in-loop-j c = omega (arith, c.in_ok-total.ensures.0, c.loop-j.invariant.2, c.loop-j-test.true, c.requires.1)
 
-pub returns-in-Refused : goal.returns-in-Refused
-returns-in-Refused c = (
-  refused_most,
-  λ cs es b q h. row_on cs es (list_count expression c.args.row.now h ∙ sym c.loop-j.invariant.0.count ∙ q)
-      (valued_off c.loop-j.invariant.3 c.next-end.ensures c.loop-j-test.true c.value_len.ensures.1 c.in-Refused.is cs es b q h),
+pub returns-in_err-total : goal.returns-in_err-total
+returns-in_err-total c = (
+  IfOk-from_err _ _ c.from_residual.ensures.0,
+  λ cs es b q h. handed_on c.from_residual.ensures.1 ∙ row_on cs es (list_count expression c.args.row.now h ∙ sym c.loop-j.invariant.0.count ∙ q)
+      (valued_off c.loop-j.invariant.3 c.next-end.ensures c.loop-j-test.true c.value_len.ensures.1 c.in_err-total.was cs es b q h),
 )
 
 pub loop-j-preserved : goal.loop-j-preserved
@@ -54,12 +56,12 @@ loop-j-preserved c =
     let d = c.next-end.ensures in (
       along_on c.loop-j.invariant.0 d,
       omega (arith, c.loop-j-test.true),
-      omega (arith, c.value_len.ensures.0.small _ c.in-Is.is, c.loop-j.invariant.2),
-      valued_on c.loop-j.invariant.3 d c.loop-j-test.true c.value_len.ensures.1 c.in-Is.is,
+      omega (arith, c.in_ok-total.ensures.0, c.loop-j.invariant.2),
+      valued_on c.loop-j.invariant.3 d c.loop-j-test.true c.value_len.ensures.1 c.in_ok-total.was,
     )
 
 pub returns : goal.returns
 returns c = (
-  is_most (omega (arith, c.loop-j.invariant.1, c.loop-j.invariant.2, c.requires.1)),
+  omega (arith, c.loop-j.invariant.1, c.loop-j.invariant.2, c.requires.1),
   λ cs es b q h. row_on cs es (list_count expression c.args.row.now h ∙ sym c.loop-j.invariant.0.count ∙ q) (valued_end c.loop-j.invariant.3 c.loop-j-test.false cs es b q h),
 )

@@ -7,7 +7,6 @@ use Rattle.image_value.specs.Parts.{value}
 use Rattle.image_parts.specs.Layout.{source, source_body}
 use Rattle.bind_table.specs.Steps.{sized_refused, sized_as}
 use Rattle.bind_insert_rows.specs.Sources.{Sourced, sourced, rows_none, rows_clauses, rows_body}
-use Rattle.bind_insert_columns.specs.Small.{AtMost, refused_most}
 use Rattle.bind_insert_rows.proofs.source_len.Goals.{After-source_of-s}
 use Rattle.std.proofs.Common.{ap}
 use Rattle.std.proofs.Common.{not}
@@ -22,8 +21,8 @@ has_source-requires c = c.requires.0
 
 pub returns-then-not-has_source : goal.returns-then-not-has_source
 returns-then-not-has_source c = (
-  subst (AtMost 300000000000) (sym c.refuse.ensures) refused_most,
-  λ cs v k q h. c.refuse.ensures ∙ sized_refused (list_of 4 (list_of 4 value)) (rows_none cs v.source (failed (c.has_source.ensures v h) (ap not c.if-not-has_source.true))),
+  tt,
+  λ cs v k q h. sized_refused (list_of 4 (list_of 4 value)) (rows_none cs v.source (failed (c.has_source.ensures v h) (ap not c.if-not-has_source.true))),
 )
 
 pub source_of-s-requires : goal.source_of-s-requires
@@ -34,10 +33,10 @@ has_clauses-requires c = is_held {f = source} (the (goal.at.has_clauses-requires
 
 pub returns-then-has_clauses : goal.returns-then-has_clauses
 returns-then-has_clauses c = (
-  subst (AtMost 300000000000) (sym c.refuse-then-has_clauses.ensures) refused_most,
+  tt,
   λ cs v k q h.
       let s = the (goal.at.returns-then-has_clauses c).After-source_of-s in
-      c.refuse-then-has_clauses.ensures ∙ sized_refused (list_of 4 (list_of 4 value)) (rows_clauses cs (s.whole v h) (sym (c.has_clauses.ensures s.value s.part) ∙ c.if-has_clauses.true)),
+      sized_refused (list_of 4 (list_of 4 value)) (rows_clauses cs (s.whole v h) (sym (c.has_clauses.ensures s.value s.part) ∙ c.if-has_clauses.true)),
 )
 
 pub body_of-requires : goal.body_of-requires

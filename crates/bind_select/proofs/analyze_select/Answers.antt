@@ -36,7 +36,7 @@ pub has_clauses-requires : goal.has_clauses-requires
 has_clauses-requires c = c.requires.1.is
 
 pub returns-then-has_clauses : goal.returns-then-has_clauses
-returns-then-has_clauses c = λ cat v hc h. c.refuse.ensures ∙ sized_refused bound_statement (with_clauses cat v (sym (c.has_clauses.ensures v h) ∙ c.if-has_clauses.true))
+returns-then-has_clauses c = λ cat v hc h. sized_refused bound_statement (with_clauses cat v (sym (c.has_clauses.ensures v h) ∙ c.if-has_clauses.true))
 
 pub body_of-b-requires : goal.body_of-b-requires
 body_of-b-requires c = c.requires.1.is
@@ -46,8 +46,7 @@ body_code-requires c = body_is (goal.at.body_code-requires c).After-body_of-b
 
 pub returns-then-body_code-eq0 : goal.returns-then-body_code-eq0
 returns-then-body_code-eq0 c = λ cat v hc h.
-    c.refuse-then-body_code-eq0.ensures
-    ∙ sized_refused bound_statement (not_plain_lem cat v (unclaused (goal.at.returns-then-body_code-eq0 c).Else-has_clauses v h) (sym (c.body_code.ensures v.body (c.body_of-b.ensures v h)) ∙ c.if-body_code-eq0.true))
+    sized_refused bound_statement (not_plain_lem cat v (unclaused (goal.at.returns-then-body_code-eq0 c).Else-has_clauses v h) (sym (c.body_code.ensures v.body (c.body_of-b.ensures v h)) ∙ c.if-body_code-eq0.true))
 
 pub select_of-s-requires : goal.select_of-s-requires
 select_of-s-requires c = body_is (goal.at.select_of-s-requires c).After-body_of-b

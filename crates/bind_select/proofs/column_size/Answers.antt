@@ -1,7 +1,6 @@
 -- `bind_select::column_size` meets its contract.
 use mathlib.Core.Path.{◌∙◌}
 use native.Mathlib.Omega.{arith}
-use Rattle.bind_where.specs.Short.{at_most_off}
 use Rattle.bind_select.specs.Columns.{called_found, called_unknown, called_name}
 use Rattle.bind_select.specs.Entries.{one_entry}
 use Rattle.bind_select.specs.Selects.{added_given, added_refused, item_unknown, item_named}
@@ -31,8 +30,8 @@ returns-in-Is c =
 
 pub returns-in-Nothing : goal.returns-in-Nothing
 returns-in-Nothing c = record {
-  few = at_most_off 4296802275 c.refuse.ensures;
+  few = tt;
   told = λ v x hv hx.
       let a = c.args in
-      c.refuse.ensures ∙ added_refused (item_unknown v x (called_unknown a.t.now a.n.now c.column_called.ensures c.in-Nothing.is v x hv hx));
+      added_refused (item_unknown v x (called_unknown a.t.now a.n.now c.column_called.ensures c.in-Nothing.is v x hv hx));
 }

@@ -2,7 +2,6 @@
 use mathlib.Core.Path.{sym, ap, ◌∙◌}
 use Rattle.bytes_format.proofs.Formats.{list_of}
 use Rattle.bytes_bundle.specs.Held.{is_held, held, held_once}
-use Rattle.bind_where.specs.Short.{at_most_off}
 use Rattle.rules.specs.Analyze as rules
 use Rattle.image_parts.specs.Layout.{name, item}
 use Rattle.image_value.specs.Parts.{column_schema}
@@ -20,7 +19,7 @@ pub item_code-code-requires : goal.item_code-code-requires
 item_code-code-requires c = c.requires.1.is
 
 pub returns-then-code-eq0 : goal.returns-then-code-eq0
-returns-then-code-eq0 c = record { few = at_most_off 4296802275 c.refuse.ensures; told = λ v x hv h. c.refuse.ensures ∙ added_refused (item_other v x (sym (c.item_code-code.ensures x h) ∙ c.if-code-eq0.true)) }
+returns-then-code-eq0 c = record { few = tt; told = λ v x hv h. added_refused (item_other v x (sym (c.item_code-code.ensures x h) ∙ c.if-code-eq0.true)) }
 
 pub columns-requires : goal.columns-requires
 columns-requires c = c.requires.0

@@ -1,9 +1,10 @@
 -- `bind_select::projection_size` meets its contract. The invariant: what was added up and what is left make the whole.
-use mathlib.Core.Path.{sym, subst}
+use mathlib.Core.Path.{sym, ◌∙◌, subst}
 use Prim.Native.Nat.{ℕ}
 use native.Mathlib.Omega.{arith}
 use Rattle.bytes_bundle.specs.Held.{along, along_on, list_bundle, list_count, turn}
-use Rattle.bind_where.specs.Short.{at_most}
+use Rattle.std.proofs.lemmas.Result.{IfOk-from_err}
+use Rattle.bind_table.specs.Steps.{handed_on}
 use Rattle.image_parts.specs.Layout.{item}
 use Rattle.bind_select.specs.Selects.{added_is, added_off, Summed, summed_none, summed_off, summed_on, summed_end}
 use Rattle.bind_select.specs.Within.{few_items, item_within_lem}
@@ -30,15 +31,16 @@ pub overflow_add-sum : goal.overflow_add-sum
 overflow_add-sum c =
     let l = c.loop-i.invariant in
     let f = few_items c.requires.1 in
-    omega (arith, at_most c.item_size.ensures.few c.in-Is.is, l.1, l.0.here.few, f)
+    omega (arith, c.in_ok-sum.ensures.few, l.1, l.0.here.few, f)
 
-pub returns-in-Refused : goal.returns-in-Refused
-returns-in-Refused c = record {
-  few = tt;
+pub returns-in_err-sum : goal.returns-in_err-sum
+returns-in_err-sum c = record {
+  few = IfOk-from_err _ _ c.from_residual.ensures.0;
   told = λ v xs hv hx.
       let t = turn {f = item} c.next-end.ensures hx in
-      summed_off (c.loop-i.invariant.2 v xs hv hx) t.rest
-      (added_off (c.item_size.ensures.told v t.value hv t.holds) c.in-Refused.is);
+      handed_on c.from_residual.ensures.1
+      ∙ summed_off (c.loop-i.invariant.2 v xs hv hx) t.rest
+      (added_off (c.item_size.ensures.told v t.value hv t.holds) c.in_err-sum.was);
 }
 
 pub loop-i-preserved : goal.loop-i-preserved
@@ -46,10 +48,10 @@ loop-i-preserved c =
     let l = c.loop-i.invariant in
     let d = c.next-end.ensures in (
       along_on l.0 d,
-      omega (arith, at_most c.item_size.ensures.few c.in-Is.is, l.1),
+      omega (arith, c.in_ok-sum.ensures.few, l.1),
       λ v xs hv hx.
           let t = turn {f = item} d hx in
-          let a = added_is (c.item_size.ensures.told v t.value hv t.holds) c.in-Is.is in
+          let a = added_is (c.item_size.ensures.told v t.value hv t.holds) c.in_ok-sum.was in
           summed_on (l.2 v xs hv hx) t.rest a.gives a.long,
     )
 

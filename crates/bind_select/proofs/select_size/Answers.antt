@@ -3,8 +3,7 @@ use native.Mathlib.Omega.{arith}
 use Rattle.bytes_format.proofs.Formats.{list_of}
 use Rattle.image_bound.specs.Columns.{bound_column_ref}
 use Rattle.image_bound.specs.Layout.{bound_statement}
-use Rattle.bind_where.specs.Short.{at_most}
-use Rattle.bind_table.specs.Steps.{sized_given, sized_refused, sized_is, sized_off}
+use Rattle.bind_table.specs.Steps.{sized_given, sized_handed, sized_is, sized_off}
 use Rattle.bind_select.specs.Selects.{Filter, unprojected, unfiltered, filtered, selected_length}
 use Rattle.bind_select.specs.Within.{select_items, select_condition}
 use Rattle.bind_select.proofs.select_size.Goals as goal
@@ -27,26 +26,26 @@ table_size-requires c = c.requires.0
 pub overflow_add-result : goal.overflow_add-result
 overflow_add-result c = omega (arith, c.table_size.ensures.few)
 
-pub overflow_add-result-in-Is-filter_if_there : goal.overflow_add-result-in-Is-filter_if_there
-overflow_add-result-in-Is-filter_if_there c = omega (arith, c.table_size.ensures.few, at_most c.projection_size.ensures.few c.in-Is.is)
+pub overflow_add-result-2 : goal.overflow_add-result-2
+overflow_add-result-2 c = omega (arith, c.table_size.ensures.few, c.in_ok-projection.ensures.few)
 
-pub overflow_add-result-in-Is-filter_if_there-2 : goal.overflow_add-result-in-Is-filter_if_there-2
-overflow_add-result-in-Is-filter_if_there-2 c =
-    omega (arith, c.table_size.ensures.few, at_most c.projection_size.ensures.few c.in-Is.is, at_most c.filter_if_there.ensures.few c.in-Is-filter_if_there.is)
+pub overflow_add-result-3 : goal.overflow_add-result-3
+overflow_add-result-3 c =
+    omega (arith, c.table_size.ensures.few, c.in_ok-projection.ensures.few, c.in_ok-filter.ensures.few)
 
-pub returns-in-Is-filter_if_there : goal.returns-in-Is-filter_if_there
-returns-in-Is-filter_if_there c = λ v x hv h.
-    let p = sized_is (list_of 4 bound_column_ref) (c.projection_size.ensures.told v x.items hv (c.items_of.ensures x h)) c.in-Is.is in
-    let f = sized_is Filter (c.filter_if_there.ensures.told v x.condition hv (c.condition_of.ensures x h)) c.in-Is-filter_if_there.is in
+pub returns : goal.returns
+returns c = λ v x hv h.
+    let p = sized_is (list_of 4 bound_column_ref) (c.projection_size.ensures.told v x.items hv (c.items_of.ensures x h)) c.in_ok-projection.was in
+    let f = sized_is Filter (c.filter_if_there.ensures.told v x.condition hv (c.condition_of.ensures x h)) c.in_ok-filter.was in
     sized_given bound_statement (filtered v x p.gives f.gives) (selected_length v p.value f.value (c.table_size.ensures.told v hv) p.long f.long)
 
-pub returns-in-Refused-filter_if_there : goal.returns-in-Refused-filter_if_there
-returns-in-Refused-filter_if_there c = λ v x hv h.
-    let p = sized_is (list_of 4 bound_column_ref) (c.projection_size.ensures.told v x.items hv (c.items_of.ensures x h)) c.in-Is.is in
-    sized_refused bound_statement
-    (unfiltered v x p.gives (sized_off Filter (c.filter_if_there.ensures.told v x.condition hv (c.condition_of.ensures x h)) c.in-Refused-filter_if_there.is))
+pub returns-in_err-filter : goal.returns-in_err-filter
+returns-in_err-filter c = λ v x hv h.
+    let p = sized_is (list_of 4 bound_column_ref) (c.projection_size.ensures.told v x.items hv (c.items_of.ensures x h)) c.in_ok-projection.was in
+    sized_handed bound_statement c.from_residual-in_err-filter.ensures.1
+    (unfiltered v x p.gives (sized_off Filter (c.filter_if_there.ensures.told v x.condition hv (c.condition_of.ensures x h)) c.in_err-filter.was))
 
-pub returns-in-Refused : goal.returns-in-Refused
-returns-in-Refused c = λ v x hv h.
-    sized_refused bound_statement
-    (unprojected v x (sized_off (list_of 4 bound_column_ref) (c.projection_size.ensures.told v x.items hv (c.items_of.ensures x h)) c.in-Refused.is))
+pub returns-in_err-projection : goal.returns-in_err-projection
+returns-in_err-projection c = λ v x hv h.
+    sized_handed bound_statement c.from_residual.ensures.1
+    (unprojected v x (sized_off (list_of 4 bound_column_ref) (c.projection_size.ensures.told v x.items hv (c.items_of.ensures x h)) c.in_err-projection.was))

@@ -111,4 +111,4 @@ returns-in-8 c = λ cat v hc h.
 
 pub returns-in_default : goal.returns-in_default
 returns-in_default c = λ cat v hc h.
-    c.refuse.ensures ∙ sized_refused bound_statement (other_rule cat (other_behind c.kind_code.result (coded (goal.at.returns-in_default c).After-kind_code c.kind_code.result refl) c.in_default.in_default-own.rest v h))
+    sized_refused bound_statement (other_rule cat (other_behind c.kind_code.result (coded (goal.at.returns-in_default c).After-kind_code c.kind_code.result refl) c.in_default.in_default-own.rest v h))

@@ -14,7 +14,7 @@ one : (c : After-only_name-name) → Only c.args.n.now c.only_name-name.result.n
 one c = only c.requires.1.0 c.object_name_code.ensures c.if-object_name_code-eq0.false c.only_name-name.ensures
 
 pub returns-then-object_name_code-eq0 : goal.returns-then-object_name_code-eq0
-returns-then-object_name_code-eq0 c = λ cat o hc h. c.refuse.ensures ∙ sized_refused text (new_several cat o (sym (c.object_name_code.ensures o h) ∙ c.if-object_name_code-eq0.true))
+returns-then-object_name_code-eq0 c = λ cat o hc h. sized_refused text (new_several cat o (sym (c.object_name_code.ensures o h) ∙ c.if-object_name_code-eq0.true))
 
 pub find_named-requires : goal.find_named-requires
 find_named-requires c =
@@ -29,7 +29,7 @@ returns-in-At c = λ cat o hc h.
     let w = one (goal.at.returns-in-At c).After-only_name-name in
     let t = subst (FindsTable c.args.c.now (canonical w.value)) c.in-At.is
     (c.find_named.ensures w.value w.part) cat hc in
-    c.refuse-in-At.ensures ∙ sized_refused text (new_taken cat o (only_value w o h) t.1)
+    sized_refused text (new_taken cat o (only_value w o h) t.1)
 
 pub returns-in-Nothing : goal.returns-in-Nothing
 returns-in-Nothing c = λ cat o hc h.

@@ -73,18 +73,16 @@ there c =
 
 pub returns-then-has_from : goal.returns-then-has_from
 returns-then-has_from c = λ cat v hc h.
-    c.refuse.ensures ∙ sized_refused bound_statement (update_from cat v (sym (c.has_from.ensures v h) ∙ c.if-has_from.true))
+    sized_refused bound_statement (update_from cat v (sym (c.has_from.ensures v h) ∙ c.if-has_from.true))
 
 pub returns-then-has_returning : goal.returns-then-has_returning
 returns-then-has_returning c = λ cat v hc h.
-    c.refuse-then-has_returning.ensures
-    ∙ sized_refused bound_statement
+    sized_refused bound_statement
     (update_returning cat v (sym (c.has_from.ensures v h) ∙ c.if-has_from.false) (sym (c.has_returning.ensures v h) ∙ c.if-has_returning.true))
 
 pub returns-then-has_conflict : goal.returns-then-has_conflict
 returns-then-has_conflict c = λ cat v hc h.
-    c.refuse-then-has_conflict.ensures
-    ∙ sized_refused bound_statement
+    sized_refused bound_statement
     (update_conflict cat v (sym (c.has_from.ensures v h) ∙ c.if-has_from.false) (sym (c.has_returning.ensures v h) ∙ c.if-has_returning.false)
     (sym (c.has_conflict.ensures v h) ∙ c.if-has_conflict.true))
 
@@ -95,8 +93,7 @@ parts-requires c =
 
 pub returns-then-parts-eq0 : goal.returns-then-parts-eq0
 returns-then-parts-eq0 c = λ cat v hc h.
-    c.refuse-then-parts-eq0.ensures
-    ∙ sized_refused bound_statement
+    sized_refused bound_statement
     (update_empty cat v (from (goal.at.returns-then-parts-eq0 c).After-assignments-list v h) (returning (goal.at.returns-then-parts-eq0 c).After-assignments-list v h) (conflict (goal.at.returns-then-parts-eq0 c).After-assignments-list v h)
     (is_empty_lem v.assignments (list_count assignment c.assignments-list.result.now (c.assignments-list.ensures v h) ∙ sym c.parts.ensures ∙ c.if-parts-eq0.true)))
 
@@ -109,8 +106,7 @@ resolve_direct_table-requires c =
 
 pub returns-then-not-has_condition : goal.returns-then-not-has_condition
 returns-then-not-has_condition c = λ cat v hc h.
-    c.refuse-then-not-has_condition.ensures
-    ∙ sized_refused bound_statement
+    sized_refused bound_statement
     (update_unconditioned cat v (from (goal.at.returns-then-not-has_condition c).After-assignments-list v h) (returning (goal.at.returns-then-not-has_condition c).After-assignments-list v h) (conflict (goal.at.returns-then-not-has_condition c).After-assignments-list v h) (some-assigned (goal.at.returns-then-not-has_condition c).After-table_of v h) (found (goal.at.returns-then-not-has_condition c).In-At cat v hc h).gives
     (absent c.condition_of-w.result.now c.has_condition.ensures (c.if-not-has_condition.true) v.condition (c.condition_of-w.ensures v h)))
 

@@ -5,8 +5,8 @@ use native.Mathlib.Omega.{arith}
 use Rattle.image_bound.specs.Expression.{bound_expression}
 use Rattle.image_bound.specs.Layout as layout
 use Rattle.image_bound.specs.Sizes.{assignment_length}
-use Rattle.bind_where.specs.Short.{at_most, at_most_off}
-use Rattle.bind_table.specs.Steps.{sized_given, sized_refused, sized_is, sized_off}
+use Rattle.std.proofs.lemmas.Result.{IfOk-from_err}
+use Rattle.bind_table.specs.Steps.{sized_given, sized_refused, sized_handed, sized_is, sized_off}
 use Rattle.rules.specs.Lookup.{in_key}
 use Rattle.bind_update.specs.Targets.{name_long}
 use Rattle.bind_update.specs.Assigned.{assigned}
@@ -15,10 +15,9 @@ use Rattle.bind_update.proofs.assign_size.Goals as goal
 
 pub returns-then-in_key : goal.returns-then-in_key
 returns-then-in_key c = record {
-  few = at_most_off 4294967500 c.refuse.ensures;
+  few = tt;
   told = λ v x k hv hx hc.
-      c.refuse.ensures
-      ∙ sized_refused layout.assignment (assign_key v k x (ap (in_key v) (sym hc.id) ∙ sym (c.in_key.ensures v hv) ∙ c.if-in_key.true));
+      sized_refused layout.assignment (assign_key v k x (ap (in_key v) (sym hc.id) ∙ sym (c.in_key.ensures v hv) ∙ c.if-in_key.true));
 }
 
 pub column_ref_len-requires : goal.column_ref_len-requires
@@ -26,16 +25,16 @@ column_ref_len-requires c =
     let k = c.requires.1.1 in
     omega (arith, name_long k.is, k.short)
 
-pub overflow_add-result-in-Is : goal.overflow_add-result-in-Is
-overflow_add-result-in-Is c =
+pub overflow_add-result-2 : goal.overflow_add-result-2
+overflow_add-result-2 c =
     let k = c.requires.1.1 in
-    omega (arith, name_long k.is, k.short, c.column_ref_len.ensures.0, at_most c.value_size.ensures.few c.in-Is.is)
+    omega (arith, name_long k.is, k.short, c.column_ref_len.ensures.0, c.in_ok-n.ensures.few)
 
-pub returns-in-Is : goal.returns-in-Is
-returns-in-Is c =
+pub returns : goal.returns
+returns c =
     let k = c.requires.1.1 in
-    let q = c.in-Is.is in record {
-      few = omega (arith, name_long k.is, k.short, c.column_ref_len.ensures.0, at_most c.value_size.ensures.few q);
+    let q = c.in_ok-n.was in record {
+      few = omega (arith, name_long k.is, k.short, c.column_ref_len.ensures.0, c.in_ok-n.ensures.few);
       told = λ v x d hv hx hc.
           let m = sized_is bound_expression (c.value_size.ensures.told v x d hv hx (sym hc.ty) (sym hc.nullable)) q in
           let out = ap (in_key v) (sym hc.id) ∙ sym (c.in_key.ensures v hv) ∙ c.if-in_key.false in
@@ -43,11 +42,11 @@ returns-in-Is c =
           (ap₂ (λ (y z : ℕ). 12 + y + z) (c.column_ref_len.ensures.1 d (name_long hc)) m.long ∙ sym (assignment_length (assigned d m.value)));
     }
 
-pub returns-in-Refused : goal.returns-in-Refused
-returns-in-Refused c = record {
-  few = tt;
+pub returns-in_err-n : goal.returns-in_err-n
+returns-in_err-n c = record {
+  few = IfOk-from_err _ _ c.from_residual.ensures.0;
   told = λ v x d hv hx hc.
       let out = ap (in_key v) (sym hc.id) ∙ sym (c.in_key.ensures v hv) ∙ c.if-in_key.false in
-      sized_refused layout.assignment
-      (assign_value v d x out (sized_off bound_expression (c.value_size.ensures.told v x d hv hx (sym hc.ty) (sym hc.nullable)) c.in-Refused.is));
+      sized_handed layout.assignment c.from_residual.ensures.1
+      (assign_value v d x out (sized_off bound_expression (c.value_size.ensures.told v x d hv hx (sym hc.ty) (sym hc.nullable)) c.in_err-n.was));
 }

@@ -4,7 +4,6 @@ use Rattle.bytes_bundle.specs.Held.{Holds, held}
 use Rattle.image_bound.specs.Layout as layout
 use Rattle.image_catalogue.specs.Layout.{table}
 use Rattle.image_parts.specs.Layout.{assignment}
-use Rattle.bind_where.specs.Short.{at_most_off}
 use Rattle.bind_table.specs.Steps.{sized_refused, sized_as}
 use Rattle.rules.specs.Statements.{Assignment}
 use Rattle.rules.specs.Tables.{TableSchema}
@@ -27,7 +26,7 @@ target_column-requires c =
     (p.0, assignment_target_lem p.1 c.target_of.ensures)
 
 pub returns-then-repeated : goal.returns-then-repeated
-returns-then-repeated c = record { few = at_most_off 4294967500 c.refuse.ensures; told = λ v x hv hx. c.refuse.ensures ∙ sized_refused layout.assignment (judged_repeated _ v x (column (goal.at.returns-then-repeated c).In-Is v x hv hx).gives c.if-repeated.true) }
+returns-then-repeated c = record { few = tt; told = λ v x hv hx. sized_refused layout.assignment (judged_repeated _ v x (column (goal.at.returns-then-repeated c).In-Is v x hv hx).gives c.if-repeated.true) }
 
 pub assign_size-requires : goal.assign_size-requires
 assign_size-requires c =
@@ -50,9 +49,8 @@ returns-else-repeated c = record {
 
 pub returns-in-Refused : goal.returns-in-Refused
 returns-in-Refused c = record {
-  few = at_most_off 4294967500 c.refuse-in-Refused.ensures;
+  few = tt;
   told = λ v x hv hx.
-      c.refuse-in-Refused.ensures
-      ∙ sized_refused layout.assignment
+      sized_refused layout.assignment
       (judged_target c.args.repeated v x (targeted_off _ _ (c.target_column.ensures v x.target hv (c.target_of.ensures x hx)) c.in-Refused.is));
 }

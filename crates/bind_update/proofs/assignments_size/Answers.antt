@@ -5,18 +5,15 @@ use Rattle.image_bound.specs.Layout as layout
 use Rattle.bytes_format.proofs.Formats.{list_of}
 use Rattle.bytes_bundle.specs.Held.{along, along_on, list_bundle}
 use Rattle.image_parts.specs.Layout.{assignment}
-use Rattle.bind_where.specs.Short.{at_most}
-use Rattle.bind_table.specs.Steps.{sized_refused}
+use Rattle.std.proofs.lemmas.Result.{IfOk-from_err}
+use Rattle.bind_table.specs.Steps.{sized_handed}
 use Rattle.bind_update.specs.Within.{assignments_part, assignments_targets}
 use Rattle.bind_update.proofs.Turns.{few_parts, measuring_none, measuring_off, measuring_on, measuring_end}
 use borrow.Author.Rules.{rules}
 use Rattle.bind_update.proofs.assignments_size.Goals.{After-count_len}
 use Rattle.bind_update.proofs.assignments_size.Goals as goal
 
--- a length, and the sum so far
-more : (c : After-count_len) → c.in-Is.k ≤ 4294967500
-more c = at_most c.assignment_size.ensures.few c.in-Is.is
-
+-- the sum so far
 within : (c : After-count_len) → c.loop-i.sum ≤ 1000000000000
 within c =
     omega (arith, c.loop-i.invariant.1.0, c.loop-i.invariant.0.here.few, few_parts c.requires.1)
@@ -46,18 +43,18 @@ assignment_size-requires c =
     (p.0.is, assignments_part p.1 c.next-end.ensures)
 
 pub overflow_add-sum : goal.overflow_add-sum
-overflow_add-sum c = omega (arith, c.count_len.ensures.0, more (goal.at.overflow_add-sum c).After-count_len)
+overflow_add-sum c = omega (arith, c.count_len.ensures.0, c.in_ok-sum.ensures.few)
 
-pub overflow_add-sum-in-Is : goal.overflow_add-sum-in-Is
-overflow_add-sum-in-Is c = omega (arith, c.count_len.ensures.0, more (goal.at.overflow_add-sum-in-Is c).After-count_len, within (goal.at.overflow_add-sum-in-Is c).After-count_len)
+pub overflow_add-sum-in-loop-i : goal.overflow_add-sum-in-loop-i
+overflow_add-sum-in-loop-i c = omega (arith, c.count_len.ensures.0, c.in_ok-sum.ensures.few, within (goal.at.overflow_add-sum-in-loop-i c).After-count_len)
 
-pub returns-in-Refused : goal.returns-in-Refused
-returns-in-Refused c = record {
-  few = tt;
+pub returns-in_err-sum : goal.returns-in_err-sum
+returns-in_err-sum c = record {
+  few = IfOk-from_err _ _ c.from_residual.ensures.0;
   told = λ v xs hv hs.
       let p = c.requires in
-      sized_refused (list_of 4 layout.assignment)
-      (measuring_off p.0 c.loop-i.invariant.1.1 c.first_repeated-place.ensures c.next-end.ensures c.is_at.ensures c.assignment_size.ensures.told c.in-Refused.is v xs hv hs);
+      sized_handed (list_of 4 layout.assignment) c.from_residual.ensures.1
+      (measuring_off p.0 c.loop-i.invariant.1.1 c.first_repeated-place.ensures c.next-end.ensures c.is_at.ensures c.assignment_size.ensures.told c.in_err-sum.was v xs hv hs);
 }
 
 pub loop-i-preserved : goal.loop-i-preserved
@@ -66,8 +63,8 @@ loop-i-preserved c =
     let p = c.requires in (
       along_on c.loop-i.invariant.0 d,
       (
-        omega (arith, c.count_len.ensures.0, more (goal.at.loop-i-preserved c).After-count_len, c.loop-i.invariant.1.0),
-        rw c.count_len.ensures.0 (measuring_on p.0 c.loop-i.invariant.1.1 c.first_repeated-place.ensures d c.is_at.ensures c.assignment_size.ensures.told c.in-Is.is),
+        omega (arith, c.count_len.ensures.0, c.in_ok-sum.ensures.few, c.loop-i.invariant.1.0),
+        rw c.count_len.ensures.0 (measuring_on p.0 c.loop-i.invariant.1.1 c.first_repeated-place.ensures d c.is_at.ensures c.assignment_size.ensures.told c.in_ok-sum.was),
       ),
     )
 

@@ -3,7 +3,7 @@ use mathlib.Core.Path.{◌≡◌, sym, ap, ◌∙◌}
 use Rattle.image_bound.specs.Expression.{bound_expression}
 use Rattle.bind_expression.specs.Marks.{sized_is, sized_refused}
 use Rattle.bind_where.specs.Fits.{fit_fine, fit_flaw}
-use Rattle.bind_where.specs.Short.{known, short_names, at_most_off, size_few}
+use Rattle.bind_where.specs.Short.{known, short_names, size_few}
 use Rattle.bind_table.specs.Steps as steps
 use Rattle.bind_table.specs.Steps.{sized_given}
 use Rattle.rules.specs.declared.Mark.{Mark}
@@ -31,11 +31,11 @@ returns-in-Fine c =
 
 pub returns-in-Flaw : goal.returns-in-Flaw
 returns-in-Flaw c = record {
-  few = at_most_off 4294967295 c.refuse.ensures;
+  few = tt;
   told = λ v x k hv hx ty null.
       let m = sized_is _ _ hv hx c.expression_size.ensures c.in-Is.is in
       let f : fit (mark_of m.0) k ≡ flaw _ = ap (λ (z : Mark). fit z k) m.2 ∙ fit_flaw (c.expression_fit.ensures k ty null) c.in-Flaw.is in
-      c.refuse.ensures ∙ steps.sized_refused bound_expression (value_flaw v k x m.1 f);
+      steps.sized_refused bound_expression (value_flaw v k x m.1 f);
 }
 
 pub returns-in-Refused : goal.returns-in-Refused

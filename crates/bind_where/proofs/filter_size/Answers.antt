@@ -8,7 +8,7 @@ use Rattle.rules.specs.Answers.{fine, flaw}
 use Rattle.rules.specs.Bound.{mark_of}
 use Rattle.rules.specs.Fits.{is_condition}
 use Rattle.bind_where.specs.Fits.{fit_fine, fit_flaw}
-use Rattle.bind_where.specs.Short.{known, short_names, at_most_off, size_few}
+use Rattle.bind_where.specs.Short.{known, short_names, size_few}
 use Rattle.bind_where.specs.Filters.{filter_off, filter_flaw, filter_on}
 use Rattle.bind_where.proofs.filter_size.Goals as goal
 
@@ -30,11 +30,11 @@ returns-in-Fine c =
 
 pub returns-in-Flaw : goal.returns-in-Flaw
 returns-in-Flaw c = record {
-  few = at_most_off 4294967295 c.refuse.ensures;
+  few = tt;
   told = λ v x hv hx.
       let m = sized_is _ _ hv hx c.expression_size.ensures c.in-Is.is in
       let f : is_condition (mark_of m.0) ≡ flaw _ = ap is_condition m.2 ∙ fit_flaw c.condition.ensures c.in-Flaw.is in
-      c.refuse.ensures ∙ steps.sized_refused bound_expression (filter_flaw v x m.1 f);
+      steps.sized_refused bound_expression (filter_flaw v x m.1 f);
 }
 
 pub returns-in-Refused : goal.returns-in-Refused

@@ -11,14 +11,12 @@ use Rattle.bind_statement.proofs.transactions.analyze_rollback.Goals as goal
 
 pub returns-then-rollback_chain : goal.returns-then-rollback_chain
 returns-then-rollback_chain c = λ cat m n h.
-    c.refuse.ensures
-    ∙ sized_refused bound_statement
+    sized_refused bound_statement
     (rollback_rule cat m n ∙ test_off UnsupportedSql (unmarked n bound_rollback) (sym (c.rollback_chain.ensures m n h) ∙ c.if-rollback_chain.true))
 
 pub returns-then-rollback_savepoint : goal.returns-then-rollback_savepoint
 returns-then-rollback_savepoint c = λ cat m n h.
-    c.refuse-then-rollback_savepoint.ensures
-    ∙ sized_refused bound_statement
+    sized_refused bound_statement
     (rollback_rule cat m n ∙ test_on UnsupportedSql (unmarked n bound_rollback) (sym (c.rollback_chain.ensures m n h) ∙ c.if-rollback_chain.false)
     ∙ test_off UnsupportedSql (given bound_rollback) (sym (c.rollback_savepoint.ensures m n h) ∙ c.if-rollback_savepoint.true))
 

@@ -8,7 +8,7 @@ use Rattle.bind_statement.proofs.transactions.analyze_unmarked.Goals as goal
 
 pub returns-then-is_marked : goal.returns-then-is_marked
 returns-then-is_marked c = λ m v h l.
-    c.refuse.ensures ∙ sized_refused bound_statement (test_off UnsupportedSql (given v) (sym (c.is_marked.ensures m h) ∙ c.if-is_marked.true))
+    sized_refused bound_statement (test_off UnsupportedSql (given v) (sym (c.is_marked.ensures m h) ∙ c.if-is_marked.true))
 
 pub returns : goal.returns
 returns c = λ m v h l.
