@@ -26,7 +26,7 @@ ghost use Rattle.bind_table.specs.Room.{Bindable};
 ghost use Rattle.image_catalogue.specs.Layout.{catalogue};
 ghost use Rattle.write_create.specs.Parts.{column_name, id_at, Marked, KeyMarks, made_columns, table_of, Roomy, RoomyList, PlainName, Writable};
 
-use bind_create::{Key, Keyed, Place, column_called, find_key, take_options};
+use bind_create::{Key, column_called, find_key, take_options};
 use bind_repeats::Repeat;
 use image_bound::bundles::{put_head3, put_ids};
 use image_bound::columns::put_column_schema;
@@ -164,9 +164,9 @@ fn id_of(columns: &[u8], n: &[u8]) -> ColumnId
         → Holds name n.now w → find (column_named (canonical w)) (schemas 0 cs) ≡ some c → result ≡ c.id }
 {
     match column_called(columns, n) {
-        Place::At(i) => ColumnId(i as u64 + 1),
+        Some(i) => ColumnId(i as u64 + 1),
         // never: each name of a bound key is a column's
-        Place::Nowhere => ColumnId(0),
+        None => ColumnId(0),
     }
 }
 
@@ -277,11 +277,11 @@ pub fn write_create_table(c: &[u8], s: &[u8], out: &mut [u8]) -> usize
 {
     // no column of a bound statement repeats a name
     match find_key(s, Repeat::Nowhere) {
-        Keyed::Is(key) => {
+        Ok(key) => {
             put_byte(out, 0, 0);
             put_table(s, key, out)
         }
         // never: the statement is bound
-        Keyed::Refused(_) => 0,
+        Err(_) => 0,
     }
 }

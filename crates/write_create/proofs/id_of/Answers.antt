@@ -7,12 +7,12 @@ use Rattle.write_create.proofs.Ids.{place_few, place_id, no_place}
 use Rattle.write_create.proofs.id_of.Goals as goal
 
 pub overflow_add-result : goal.overflow_add-result
-overflow_add-result c = omega (arith, place_few c.requires.0 c.requires.1 c.column_called.ensures c.in-At.is)
+overflow_add-result c = omega (arith, place_few c.requires.0 c.requires.1 c.column_called.ensures c.in-Some.is)
 
-pub returns-in-At : goal.returns-in-At
-returns-in-At c = λ cs w x h k e.
-    place_id cs (canonical w) (subst (FindsColumn cs (canonical w)) c.in-At.is (c.column_called.ensures cs w h k)) e
+pub returns-in-Some : goal.returns-in-Some
+returns-in-Some c = λ cs w x h k e.
+    place_id cs (canonical w) (subst (FindsColumn cs (canonical w)) c.in-Some.is (c.column_called.ensures cs w h k)) e
 
-pub returns-in-Nowhere : goal.returns-in-Nowhere
-returns-in-Nowhere c = λ cs w x h k e.
-    absurd (no_place (subst (FindsColumn cs (canonical w)) c.in-Nowhere.is (c.column_called.ensures cs w h k)) e)
+pub returns-in-None : goal.returns-in-None
+returns-in-None c = λ cs w x h k e.
+    absurd (no_place (subst (FindsColumn cs (canonical w)) c.in-None.is (c.column_called.ensures cs w h k)) e)

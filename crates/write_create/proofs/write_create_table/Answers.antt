@@ -9,15 +9,15 @@ pub find_key-requires : goal.find_key-requires
 find_key-requires c = (c.requires.0.is, place_in c.requires.1)
 
 pub put_byte-requires : goal.put_byte-requires
-put_byte-requires c = let w = writable c.requires.1 c.find_key.ensures c.in-Is.is refl in omega (arith, w.fits)
+put_byte-requires c = let w = writable c.requires.1 c.find_key.ensures c.in-Ok.is refl in omega (arith, w.fits)
 
 pub put_table-requires : goal.put_table-requires
-put_table-requires c = (c.requires.0, writable c.requires.1 c.find_key.ensures c.in-Is.is (wrote_long c.put_byte.ensures))
+put_table-requires c = (c.requires.0, writable c.requires.1 c.find_key.ensures c.in-Ok.is (wrote_long c.put_byte.ensures))
 
-pub returns-in-Is : goal.returns-in-Is
-returns-in-Is c = λ cat v b hc hv e.
-    let k = key_given cat v e (key_read c.requires.1 c.find_key.ensures c.in-Is.is v hv) in
+pub returns-in-Ok : goal.returns-in-Ok
+returns-in-Ok c = λ cat v b hc hv e.
+    let k = key_given cat v e (key_read c.requires.1 c.find_key.ensures c.in-Ok.is v hv) in
     whole_wrote k c.put_byte.ensures (c.put_table.ensures v k.name k.names k.ids hv k.plainly k.at k.gives)
 
-pub returns-in-Refused : goal.returns-in-Refused
-returns-in-Refused c = λ cat v b hc hv e. absurd (never_refused cat v e c.in-Refused.is (c.find_key.ensures v hv))
+pub returns-in-Err : goal.returns-in-Err
+returns-in-Err c = λ cat v b hc hv e. absurd (never_refused cat v e c.in-Err.is (c.find_key.ensures v hv))
