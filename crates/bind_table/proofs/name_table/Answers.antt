@@ -13,25 +13,23 @@ one c = only c.requires.1.0 c.object_name_code.ensures c.if-object_name_code-eq0
 
 pub returns-then-object_name_code-eq0 : goal.returns-then-object_name_code-eq0
 returns-then-object_name_code-eq0 c = λ cat o hc h.
-    let a = c.args in
-    off_resolved a.c.now (named_table cat o) c.unresolved.ensures (named_several cat o (sym (c.object_name_code.ensures o h) ∙ c.if-object_name_code-eq0.true))
+    off_resolved (named_table cat o) c.into.ensures (named_several cat o (sym (c.object_name_code.ensures o h) ∙ c.if-object_name_code-eq0.true))
 
 pub find_named-requires : goal.find_named-requires
 find_named-requires c =
     let p = c.requires in
     (p.0, (only_is (one (goal.at.find_named-requires c).After-only_name), only_short (one (goal.at.find_named-requires c).After-only_name) p.1.1))
 
-pub returns-in-At : goal.returns-in-At
-returns-in-At c = λ cat o hc h.
+pub returns-in-Some : goal.returns-in-Some
+returns-in-Some c = λ cat o hc h.
     let d = c.find_named in
-    let w = one (goal.at.returns-in-At c).After-only_name in
-    let t = subst (FindsTable c.args.c.now (canonical w.value)) c.in-At.is (d.ensures w.value w.part) cat hc in
+    let w = one (goal.at.returns-in-Some c).After-only_name in
+    let t = subst (FindsTable c.args.c.now (canonical w.value)) c.in-Some.is (d.ensures w.value w.part) cat hc in
     (t.0, named_is cat o (only_value w o h) t.1, t.2)
 
-pub returns-in-Nothing : goal.returns-in-Nothing
-returns-in-Nothing c = λ cat o hc h.
+pub returns-in-None : goal.returns-in-None
+returns-in-None c = λ cat o hc h.
     let d = c.find_named in
-    let w = one (goal.at.returns-in-Nothing c).After-only_name in
-    let s = c.args.c.now in
-    off_resolved s (named_table cat o) c.unresolved-in-Nothing.ensures
-    (named_none cat o (only_value w o h) (subst (FindsTable s (canonical w.value)) c.in-Nothing.is (d.ensures w.value w.part) cat hc))
+    let w = one (goal.at.returns-in-None c).After-only_name in
+    off_resolved (named_table cat o) c.into-in-None.ensures
+    (named_none cat o (only_value w o h) (subst (FindsTable c.args.c.now (canonical w.value)) c.in-None.is (d.ensures w.value w.part) cat hc))
