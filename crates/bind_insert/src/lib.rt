@@ -19,7 +19,7 @@ ghost use Rattle.bind_insert.specs.Inserts.{insert_rows, insert_into};
 
 use bind_insert_columns::{Need, bind_columns, lacks};
 use bind_insert_rows::source_len;
-use bind_table::{Measured, Resolved, name_table, refuse};
+use bind_table::{Measured, name_table, refuse};
 use image_bound::columns::table_ref_len;
 use image_insert::is_modified;
 use rules::Class;
@@ -71,7 +71,7 @@ pub fn analyze_insert(c: &[u8], i: &[u8]) -> Measured
         return refuse(Class::UnsupportedSql);
     }
     match name_table(c, image_insert::table_name(i)) {
-        Resolved::At(start, end) => analyze_into(&c[start..end], i),
-        Resolved::Refused(r) => Measured::Refused(r),
+        Ok(t) => analyze_into(t, i),
+        Err(r) => Measured::Refused(r),
     }
 }
