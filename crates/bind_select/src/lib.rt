@@ -22,10 +22,10 @@ ghost use Rattle.bind_select.specs.Entries.{column_entries};
 ghost use Rattle.bind_select.specs.Selects.{selected_table, selected_rows, Filter, added};
 ghost use Rattle.bind_select.specs.Within.{QueryWithin, SelectWithin, ItemsWithin, ItemWithin};
 
-use bind_table::{Measured, Resolved, refuse, resolve_direct_table, unresolved};
+use bind_table::{Measured, refuse, resolve_direct_table};
 use bind_table_ref::table_size;
 use bind_where::filter_size;
-use catalogue_lookup::{Named, find_column};
+use catalogue_lookup::{Column, find_column};
 use image_bound::columns::column_ref_len;
 use image_bound::fields::count_len;
 use image_catalogue::{column_name, columns};
@@ -35,20 +35,20 @@ use image_select::{
     body_code, body_of, column_of, condition_of, from_code, from_of, has_clauses, has_features,
     item_code, items_of, select_of, table_of,
 };
-use rules::Class;
+use rules::{Class, Refusal};
 
 // The one table that a SELECT reads, which has no clause that is not supported.
-pub fn selected_table(c: &[u8], s: &[u8]) -> Resolved
+pub fn selected_table<'a>(c: &'a [u8], s: &[u8]) -> Result<&'a [u8], Refusal>
     requires { Is (list_of 2 table) c.now × SelectWithin s.now }
     ensures { (cat : Catalogue) (v : Select) → Holds (list_of 2 table) c.now cat → Holds layout.select s.now v
-        → ResolvedAs c.now (selected_table cat v) result }
+        → ResolvedAs (selected_table cat v) result }
 {
     if has_features(s) {
-        return unresolved(Class::UnsupportedSql);
+        return Err(Class::UnsupportedSql.into());
     }
     let f = from_of(s);
     if from_code(f) == 0 {
-        return unresolved(Class::UnsupportedSql);
+        return Err(Class::UnsupportedSql.into());
     }
     resolve_direct_table(c, table_of(f))
 }
@@ -83,7 +83,7 @@ fn columns_size(s: &[u8]) -> usize
     sum
 }
 
-pub fn column_called(t: &[u8], n: &[u8]) -> Named
+pub fn column_called<'a>(t: &'a [u8], n: &[u8]) -> Option<Column<'a>>
     requires { Is table t.now × (Is layout.name n.now × ShortText n.now) }
     ensures { Calls t.now n.now result }
 {
@@ -97,12 +97,8 @@ fn column_size(t: &[u8], n: &[u8]) -> Measured
     ensures told { (v : TableSchema) (x : Name) → Holds table t.now v → Holds layout.name n.now x → result ≡ added (item v (column x)) }
 {
     match column_called(t, n) {
-        Named::Is(c) => {
-            let start = c.start;
-            let end = c.end;
-            Measured::Is(entry_len(end - start))
-        }
-        Named::Nothing => refuse(Class::SchemaMismatch),
+        Some(c) => Measured::Is(entry_len(c.name.len())),
+        None => refuse(Class::SchemaMismatch),
     }
 }
 
@@ -193,7 +189,7 @@ pub fn analyze_select(c: &[u8], q: &[u8]) -> Measured
     }
     let s = select_of(b);
     match selected_table(c, s) {
-        Resolved::At(start, end) => select_size(&c[start..end], s),
-        Resolved::Refused(r) => Measured::Refused(r),
+        Ok(t) => select_size(t, s),
+        Err(r) => Measured::Refused(r),
     }
 }

@@ -16,7 +16,7 @@ use Rattle.bind_insert.proofs.analyze_insert.Goals as goal
 
 -- the table, where there is one
 found : (c : In-Ok) (cat : Catalogue) (v : Insert) → Holds catalogue c.args.c.now cat → Holds insertion c.args.i.now v
-    → TableGiven c.args.c.now (named_table cat v.name) c.in-Ok.start c.in-Ok.end
+    → TableGiven (named_table cat v.name) c.in-Ok.t.now
 found c cat v hc h =
     let s = c.args.c.now in
     resolved_is (named_table cat v.name) (c.name_table.ensures cat v.name (catalogue_tables s hc) (c.table_name.ensures v h)) c.in-Ok.is
