@@ -3,7 +3,7 @@
 -- `sized_refused`.
 -- Assumes nothing.
 use Rattle.std.proofs.Math.Path.{◌≡◌, ap}
-use Rattle.std.specs.Prelude.{refl, Bool, true, false, List, ℕ, Result, Ok, Err}
+use Rattle.std.specs.Prelude.{refl, Bool, true, false, List, ℕ, Result, Ok, Err, Option as Maybe, Some, None, ok_or}
 use Rattle.std.specs.Borrow.{Bor}
 use Rattle.std.proofs.Common.{sym, ◌∙◌, subst, arith}
 use Rattle.std.proofs.Math.Option.{Option, none, some}
@@ -114,6 +114,12 @@ module _ {A : Type 0} (f : Format A) {m : Measured} where
 -- what is answered where there is none: the refusal that a class became
 pub off_resolved : (a : Answer TableSchema) {r k : Refusal} → r ≡ k → a ≡ refused k → ResolvedAs a (Err r)
 off_resolved a q e = e ∙ ap refused (sym q)
+
+-- what is answered from a lookup
+pub looked_up : (a : Answer TableSchema) (o : Maybe (Bor (List ℕ))) {k : Refusal} → ((p : Bor (List ℕ)) → o ≡ Some p → ResolvedAs a (Ok p)) → (o ≡ None → a ≡ refused k)
+    → ResolvedAs a (ok_or o k)
+looked_up a (Some p) f g = f p refl
+looked_up a None f g = g refl
 
 -- an answer gave a table, whose bytes are p
 pub record TableGiven (a : Answer TableSchema) (p : List ℕ) : Type 0 where

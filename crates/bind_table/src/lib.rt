@@ -54,10 +54,7 @@ pub fn name_table<'a>(c: &'a [u8], n: &[u8]) -> Result<&'a [u8], Refusal>
     if object_name_code(n) == 0 {
         return Err(Class::UnsupportedSql.into());
     }
-    match find_named(c, only_name(n)) {
-        Some(table) => Ok(table),
-        None => Err(Class::SchemaMismatch.into()),
-    }
+    find_named(c, only_name(n)).ok_or(Class::SchemaMismatch.into())
 }
 
 // The one table of a SELECT, an UPDATE or a DELETE.

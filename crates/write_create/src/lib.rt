@@ -28,7 +28,6 @@ ghost use Rattle.write_create.specs.Parts.{column_name, id_at, Marked, KeyMarks,
 
 use bind_create::{Key, Keyed, Place, column_called, find_key, take_options};
 use bind_options::Step;
-use bind_repeats::Repeat;
 use image_bound::bundles::{put_head3, put_ids};
 use image_bound::columns::put_column_schema;
 use image_bound::fields::{put_byte, put_count};
@@ -277,7 +276,7 @@ pub fn write_create_table(c: &[u8], s: &[u8], out: &mut [u8]) -> usize
         → analyze_create_table cat v ≡ given b → Wrote out.old 0 (bound_statement.write b) result out.new }
 {
     // no column of a bound statement repeats a name
-    match find_key(s, Repeat::Nowhere) {
+    match find_key(s, None) {
         Keyed::Is(key) => {
             put_byte(out, 0, 0);
             put_table(s, key, out)
