@@ -29,8 +29,7 @@ use Rattle.text_names.specs.Compared.{named}
 use Rattle.text_numbers.specs.declared.Literal.TheVariants as number
 use Rattle.text_numbers.specs.Literal as literal
 use Rattle.catalogue_lookup.specs.declared.Column.{Column}
-use Rattle.catalogue_lookup.specs.declared.Named.{Named}
-use Rattle.catalogue_lookup.specs.declared.Named.TheVariants as answer
+use Rattle.std.specs.Prelude.{Option as Maybe, Some, None}
 use Rattle.image_catalogue.specs.Layout.{table}
 use Rattle.catalogue_lookup.specs.Finds.{ColumnBound, ColumnIs, FindsColumn}
 use Rattle.image_catalogue.specs.Entries.{find_hit, find_miss}
@@ -96,9 +95,8 @@ found_table v p n (c ∷ cs) b h = go (p (bound_column v n c)) refl (found_table
     go true e rest = ap (λ (x : BoundColumnRef). x.table_id) (sym (some-injective (bound_column v n c) b (sym (find_hit p (bound_column v n c) l e) ∙ h)))
     go false e rest = rest (sym (find_miss p (bound_column v n c) l e) ∙ h)
 
-same_ref : {t : List ℕ} {c : Column} {b : BoundColumnRef} {id : TableId} → ColumnBound t c b → id ≡ b.table_id
-    → column_ref id c.id c.ordinal c.ty c.nullable (take (c.«end» - c.start) (drop c.start t)) ≡ b
-same_ref d i = rw (i, d.id, d.ordinal, d.ty, d.nullable, d.name.is)
+same_ref : {c : Column} {b : BoundColumnRef} {id : TableId} → ColumnBound c b → id ≡ b.table_id → column_ref id c.id c.ordinal c.ty c.nullable c.name.now ≡ b
+same_ref d i = rw (i, d.id, d.ordinal, d.ty, d.nullable, d.name)
 
 -- the column that a name's rule gives, as it was found
 record Given (t : List ℕ) (c : Column) (l : Marked BoundLeaf) : Type 0 where
@@ -107,15 +105,15 @@ record Given (t : List ℕ) (c : Column) (l : Marked BoundLeaf) : Type 0 where
   pub schema : TableSchema
   pub holds : Holds table t schema
   pub owner : ref.table_id ≡ schema.id
-  pub bound : ColumnBound t c ref
+  pub bound : ColumnBound c ref
 
-module _ (t : List ℕ) (quoted : Bool) (name : Text) (r : Named) (found : FindsColumn t (canonical (named quoted name)) r) where
-  module _ (c : Column) (e : r ≡ answer.Is c) where
+module _ (t : List ℕ) (quoted : Bool) (name : Text) (r : Maybe Column) (found : FindsColumn t (canonical (named quoted name)) r) where
+  module _ (c : Column) (e : r ≡ Some c) where
     column : (l : Marked BoundLeaf) → Columned t quoted name l → Given t c l
     unfolding column_by_name bound_columns
     column l k =
         let n = canonical (named quoted name) in
-        let w = subst (ColumnIs t (column_by_name k.schema n)) e (found k.schema k.holds) in
+        let w = subst (ColumnIs (column_by_name k.schema n)) e (found k.schema k.holds) in
         record {
           ref = w.0;
           is = fine_same (sym (ap column_leaf w.1) ∙ k.rule);
@@ -125,17 +123,14 @@ module _ (t : List ℕ) (quoted : Bool) (name : Text) (r : Named) (found : Finds
           bound = w.2;
         }
 
-    pub column_lies : {o : List ℕ} {at : ℕ} → LeafRoom (Columned t quoted name) o at → (c.start ≤ c.«end») × (c.«end» ≤ length t)
-    column_lies p = let g = column p.label p.rule in (g.bound.name.forth, g.bound.name.within)
-
-    pub column_room : {o : List ℕ} {at : ℕ} → LeafRoom (Columned t quoted name) o at → at + (26 + length (take (c.«end» - c.start) (drop c.start t))) ≤ length o
+    pub column_room : {o : List ℕ} {at : ℕ} → LeafRoom (Columned t quoted name) o at → at + (26 + length c.name.now) ≤ length o
     column_room p =
         let g = column p.label p.rule in
-        rw (g.bound.name.is, ← column_ref_length g.ref) (rw (← g.is) at p.room)
+        rw (g.bound.name, ← column_ref_length g.ref) (rw (← g.is) at p.room)
 
     pub column_puts : {o o' : List ℕ} {at end : ℕ} (id : TableId) (m : Mark) → ((v : TableSchema) → Holds table t v → id ≡ v.id)
         → ((b : BoundColumnRef) → b.ty ≡ c.ty → b.nullable ≡ c.nullable → m ≡ column_mark b)
-        → Wrote o at (bound_column_ref.write (column_ref id c.id c.ordinal c.ty c.nullable (take (c.«end» - c.start) (drop c.start t)))) end o'
+        → Wrote o at (bound_column_ref.write (column_ref id c.id c.ordinal c.ty c.nullable c.name.now)) end o'
         → Puts (Columned t quoted name) o at (record { kind = 0; ty = m.ty; «end» = end; nullable = m.nullable }) o'
     column_puts id m own marked w l k =
         let g = column l k in
@@ -146,10 +141,10 @@ module _ (t : List ℕ) (quoted : Bool) (name : Text) (r : Named) (found : Finds
           wrote = spelt (ap bound_column_ref.write q) w;
         })
 
-  pub column_never : {o : List ℕ} {at : ℕ} → r ≡ answer.Nothing → LeafRoom (Columned t quoted name) o at → ⊥
+  pub column_never : {o : List ℕ} {at : ℕ} → r ≡ None → LeafRoom (Columned t quoted name) o at → ⊥
   column_never e p =
       let k = p.rule in
-      let w = subst (ColumnIs t (column_by_name k.schema (canonical (named quoted name)))) e (found k.schema k.holds) in
+      let w = subst (ColumnIs (column_by_name k.schema (canonical (named quoted name)))) e (found k.schema k.holds) in
       never_fine (sym (ap column_leaf w) ∙ k.rule)
 
 -- ---- a leaf by its kind: a rule that follows from the leaf's
