@@ -37,7 +37,7 @@ use Rattle.image_expression.specs.Expression.{name_of}
 use Rattle.image_expression.specs.Place.{leaf_of}
 use Rattle.bytes_bundle.specs.Held.{Holds}
 use Rattle.image_bound.specs.Columns.{bound_column_ref}
-use Rattle.image_bound.specs.Made.{column_ref}
+use Rattle.write_expression.specs.Found.{ref_of, ref_is, column_owner}
 use Rattle.image_bound.specs.Written.{spelt}
 use Rattle.image_bound.specs.Spelt.{column_ref_length, int_length}
 use Rattle.write_expression.specs.declared.Leaf.{Leaf}
@@ -82,22 +82,6 @@ module _ (negative : Bool) (s : Text) where
 
 -- ---- columns
 
--- a column that is found is one of its table
-found_table : (v : TableSchema) (p : BoundColumnRef → Bool) (n : ℕ) (cs : List ColumnSchema) (b : BoundColumnRef) → find p (bound_columns_from v n cs) ≡ some b → b.table_id ≡ v.id
-unfolding bound_columns_from bound_column
-found_table v p n [] b h = absurd (never_some h)
-found_table v p n (c ∷ cs) b h = go (p (bound_column v n c)) refl (found_table v p (suc n) cs b)
-  where
-    l : List BoundColumnRef
-    l = bound_columns_from v (suc n) cs
-
-    go : (t : Bool) → p (bound_column v n c) ≡ t → (find p l ≡ some b → b.table_id ≡ v.id) → b.table_id ≡ v.id
-    go true e rest = ap (λ (x : BoundColumnRef). x.table_id) (sym (some-injective (bound_column v n c) b (sym (find_hit p (bound_column v n c) l e) ∙ h)))
-    go false e rest = rest (sym (find_miss p (bound_column v n c) l e) ∙ h)
-
-same_ref : {c : Column} {b : BoundColumnRef} {id : TableId} → ColumnBound c b → id ≡ b.table_id → column_ref id c.id c.ordinal c.ty c.nullable c.name.now ≡ b
-same_ref d i = rw (i, d.id, d.ordinal, d.ty, d.nullable, d.name)
-
 -- the column that a name's rule gives, as it was found
 record Given (t : List ℕ) (c : Column) (l : Marked BoundLeaf) : Type 0 where
   pub ref : BoundColumnRef
@@ -110,7 +94,6 @@ record Given (t : List ℕ) (c : Column) (l : Marked BoundLeaf) : Type 0 where
 module _ (t : List ℕ) (quoted : Bool) (name : Text) (r : Maybe Column) (found : FindsColumn t (canonical (named quoted name)) r) where
   module _ (c : Column) (e : r ≡ Some c) where
     column : (l : Marked BoundLeaf) → Columned t quoted name l → Given t c l
-    unfolding column_by_name bound_columns
     column l k =
         let n = canonical (named quoted name) in
         let w = subst (ColumnIs (column_by_name k.schema n)) e (found k.schema k.holds) in
@@ -119,7 +102,7 @@ module _ (t : List ℕ) (quoted : Bool) (name : Text) (r : Maybe Column) (found 
           is = fine_same (sym (ap column_leaf w.1) ∙ k.rule);
           schema = k.schema;
           holds = k.holds;
-          owner = found_table k.schema (ref_named n) 0 k.schema.columns w.0 w.1;
+          owner = column_owner k.schema n w.1;
           bound = w.2;
         }
 
@@ -130,11 +113,11 @@ module _ (t : List ℕ) (quoted : Bool) (name : Text) (r : Maybe Column) (found 
 
     pub column_puts : {o o' : List ℕ} {at end : ℕ} (id : TableId) (m : Mark) → ((v : TableSchema) → Holds table t v → id ≡ v.id)
         → ((b : BoundColumnRef) → b.ty ≡ c.ty → b.nullable ≡ c.nullable → m ≡ column_mark b)
-        → Wrote o at (bound_column_ref.write (column_ref id c.id c.ordinal c.ty c.nullable c.name.now)) end o'
+        → Wrote o at (bound_column_ref.write (ref_of c id)) end o'
         → Puts (Columned t quoted name) o at (record { kind = 0; ty = m.ty; «end» = end; nullable = m.nullable }) o'
     column_puts id m own marked w l k =
         let g = column l k in
-        let q = same_ref g.bound (own g.schema g.holds ∙ sym g.owner) in
+        let q = ref_is g.bound (own g.schema g.holds ∙ sym g.owner) in
         rw (← g.is) (record {
           kind = refl;
           mark = marked g.ref (sym g.bound.ty) (sym g.bound.nullable);
