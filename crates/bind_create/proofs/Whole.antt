@@ -12,7 +12,7 @@ use Rattle.image_bound.specs.Layout.{bound_statement}
 use Rattle.bytes_bundle.specs.Held.{Holds, Is, held, held_once}
 use Rattle.image_expression.specs.Names.{Within}
 use Rattle.bind_repeats.specs.declared.Of.TheVariants as of
-use Rattle.bind_repeats.specs.declared.Repeat.{Repeat}
+use Rattle.std.specs.Prelude.{Option as Maybe}
 use Rattle.bind_repeats.specs.Repeats.{first_repeated}
 use Rattle.bind_repeats.specs.Entries.{entry, FindsRepeat}
 use Rattle.std.specs.Prelude.{Result}
@@ -62,12 +62,12 @@ module _ (v : CreateTable) where
   read_columns_off e = step_off _ e
 
 -- the place of a repeat, of the statement's bytes and of the columns'
-pub place_of : {s : List ℕ} (p : List ℕ) {place : Repeat} → Is create s → PlaceIn s place → ((v : CreateTable) → Holds create s v → Holds (list_of 2 column_definition) p v.columns)
+pub place_of : {s : List ℕ} (p : List ℕ) {place : Maybe ℕ} → Is create s → PlaceIn s place → ((v : CreateTable) → Holds create s v → Holds (list_of 2 column_definition) p v.columns)
     → FindsRepeat of.Columns p place
 place_of {s} p {place} i w g vs h =
     held i (λ v k. subst (λ (l : List ColumnDefinition). place ≡ first_repeated (map (entry of.Columns) l)) (held_once (list_of 2 column_definition) {s = p} (g v k) h) (w.is v k))
 
-pub place_in : {s : List ℕ} (p : List ℕ) {place : Repeat} → FindsRepeat of.Columns p place → ((v : CreateTable) → Holds create s v → Holds (list_of 2 column_definition) p v.columns) → PlaceIn s place
+pub place_in : {s : List ℕ} (p : List ℕ) {place : Maybe ℕ} → FindsRepeat of.Columns p place → ((v : CreateTable) → Holds create s v → Holds (list_of 2 column_definition) p v.columns) → PlaceIn s place
 place_in p f g = record { is = λ v h. f v.columns (g v h) }
 
 -- ---- how many ids

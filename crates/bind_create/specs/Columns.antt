@@ -1,11 +1,10 @@
 -- The columns of a CREATE TABLE one after the other: what the first of them make, and what is left to the others.
 -- Assumes nothing.
-use Rattle.std.specs.Prelude.{◌≡◌, refl, Bool, true, false, cond, ◌||◌, List, [], ◌∷◌, ◌++◌, map, ℕ, ◌+◌, ◌≤◌, length, take, drop}
+use Rattle.std.specs.Prelude.{◌≡◌, refl, Bool, true, false, cond, ◌||◌, List, [], ◌∷◌, ◌++◌, map, ℕ, ◌+◌, ◌≤◌, length, take, drop, None}
 use Rattle.std.proofs.Common.{sym, ap, ap₂, ◌∙◌, subst, arith, length-drop, drop_of_length-le, take_all}
 use Rattle.std.proofs.Math.Option.{Option, none, some}
 use Rattle.std.proofs.lemmas.List.{length-map}
 use Rattle.bind_repeats.specs.declared.Of.TheVariants as of
-use Rattle.bind_repeats.specs.declared.Repeat.TheVariants as repeat
 use Rattle.bind_repeats.specs.Entries.{entry}
 use Rattle.bind_repeats.specs.Repeats.{alike, first_repeated, is_at, take_next, drop_next, drop_map, take_map, Reached, reached_none, reached_turn, reached_on, reached_end}
 use Rattle.rules.specs.declared.Class.{Class}
@@ -114,7 +113,7 @@ columns_end {cs} {key} {i} t h = record {
 -- ---- columns that are all made
 
 module _ (cs : List ColumnDefinition) {e : Definition} (g : define_columns (definition [] none) cs ≡ given e) where
-  to_end : (m : List ColumnDefinition) (i : ℕ) {key : Key} → ColumnsTo cs key i → drop i cs ≡ m → first_repeated (map (entry of.Columns) cs) ≡ repeat.Nowhere
+  to_end : (m : List ColumnDefinition) (i : ℕ) {key : Key} → ColumnsTo cs key i → drop i cs ≡ m → first_repeated (map (entry of.Columns) cs) ≡ None
   to_end [] i t d =
       let z : length (map (entry of.Columns) cs) ≤ i = omega (arith, ap length d, length-drop i cs, length-map cs (entry of.Columns)) in
       reached_end t.reached z
@@ -123,5 +122,5 @@ module _ (cs : List ColumnDefinition) {e : Definition} (g : define_columns (defi
       to_end m (i + 1) (columns_on t d (record { yes = a.0; gives = a.1; is = refl })) (drop_next i cs d)
 
   -- no name was given twice
-  pub columns_distinct : first_repeated (map (entry of.Columns) cs) ≡ repeat.Nowhere
+  pub columns_distinct : first_repeated (map (entry of.Columns) cs) ≡ None
   columns_distinct = to_end cs 0 (columns_none cs) refl

@@ -1,6 +1,6 @@
 -- A CREATE TABLE within the limits: its names are short, its lists are short.
 -- Assumes nothing.
-use Rattle.std.specs.Prelude.{◌≡◌, refl, Bool, ◌&&◌, List, [], ◌∷◌, ◌++◌, map, ℕ, zero, suc, ◌≤◌, drop}
+use Rattle.std.specs.Prelude.{◌≡◌, refl, Bool, ◌&&◌, List, [], ◌∷◌, ◌++◌, map, ℕ, zero, suc, ◌≤◌, drop, Option as Maybe}
 use Rattle.std.proofs.Common.{sym, ap, ap₂, ◌∙◌, subst, arith}
 use Rattle.std.proofs.Math.Bool.{true}
 use Rattle.std.proofs.Math.Option.{Option}
@@ -16,7 +16,6 @@ use Rattle.rules.specs.Limits.{gather, object_names, constraint_names, key_lists
 use Rattle.rules.specs.Statements.{Name, ColumnDefinition, Constraint, primary_key, CreateTable}
 use Rattle.image_parts.specs.Layout.{name, object_name, column_definition, create}
 use Rattle.bind_repeats.specs.declared.Of.TheVariants as of
-use Rattle.bind_repeats.specs.declared.Repeat.{Repeat}
 use Rattle.bind_repeats.specs.Repeats.{first_repeated}
 use Rattle.bind_repeats.specs.Entries.{AllShort, entry}
 use Rattle.bind_table.specs.Short.{ShortName, all_front, all_back, held_within_lem, create_short, short_name_lem}
@@ -38,7 +37,7 @@ pub record FewNames (s : List ℕ) : Type 0 where
   pub few : length (parts_of 2 s) ≤ 64
 
 -- the place of the first column that repeats a name
-pub record PlaceIn (s : List ℕ) (place : Repeat) : Type 0 where
+pub record PlaceIn (s : List ℕ) (place : Maybe ℕ) : Type 0 where
   pub is : (v : CreateTable) → Holds create s v → place ≡ first_repeated (map (entry of.Columns) v.columns)
 
 -- the key stands at a column or a constraint that is there

@@ -23,7 +23,7 @@ ghost use Rattle.bind_create.specs.Keys.{has_key, inlined, constrained, KeyAt, R
 ghost use Rattle.bind_create.specs.Within.{CreateWithin, FewColumns, FewNames, PlaceIn, KeyIn};
 
 use bind_options::OptionState;
-use bind_repeats::{Of, Repeat, are_alike_names, is_at};
+use bind_repeats::{Of, are_alike_names, is_at};
 use bind_table::new_table_name;
 use image_bound::bundles::ids_len;
 use image_bound::columns::column_schema_len;
@@ -125,7 +125,7 @@ fn define_column(d: &[u8], i: usize, key: Key, repeated: bool) -> Result<Key, Cl
 }
 
 // The columns, of which the one at `place` is the first that repeats a name.
-fn define_columns(s: &[u8], place: Repeat) -> Result<Key, Class>
+fn define_columns(s: &[u8], place: Option<usize>) -> Result<Key, Class>
     requires { Is (list_of 2 column_definition) s.now × FindsRepeat of.Columns s.now place }
     ensures { (cs : List ColumnDefinition) → Holds (list_of 2 column_definition) s.now cs → ReadsColumns cs result }
 {
@@ -182,7 +182,7 @@ fn register_all(s: &[u8], before: Key) -> Result<Key, Class>
 }
 
 // Where the key of a CREATE TABLE stands, once its columns and its constraints are read.
-pub fn find_key(s: &[u8], place: Repeat) -> Result<Key, Class>
+pub fn find_key(s: &[u8], place: Option<usize>) -> Result<Key, Class>
     requires { Is create s.now × PlaceIn s.now place }
     ensures { (v : CreateTable) → Holds create s.now v → ReadsKey v result }
 {

@@ -16,7 +16,7 @@ ghost use Rattle.image_parts.specs.Layout.{condition, deletion};
 ghost use Rattle.bind_delete.specs.Deletes.{deleted_table, deleted_rows};
 ghost use Rattle.bind_delete.specs.Within.{DeleteWithin};
 
-use bind_table::{Resolved, resolve_direct_table, unresolved};
+use bind_table::resolve_direct_table;
 use bind_table_ref::table_size;
 use bind_where::filter_size;
 use image_delete::{
@@ -27,33 +27,33 @@ use image_parts::condition::has_condition;
 use rules::{Class, Refusal};
 
 // The one table that a DELETE names, which has no clause beside its FROM and its WHERE.
-pub fn deleted_table(c: &[u8], d: &[u8]) -> Resolved
+pub fn deleted_table<'a>(c: &'a [u8], d: &[u8]) -> Result<&'a [u8], Refusal>
     requires { Is (list_of 2 table) c.now × DeleteWithin d.now }
     ensures { (cat : Catalogue) (v : Delete) → Holds (list_of 2 table) c.now cat → Holds deletion d.now v
-        → ResolvedAs c.now (deleted_table cat v) result }
+        → ResolvedAs (deleted_table cat v) result }
 {
     if has_tables(d) {
-        return unresolved(Class::UnsupportedSql);
+        return Err(Class::UnsupportedSql.into());
     }
     if has_using(d) {
-        return unresolved(Class::UnsupportedSql);
+        return Err(Class::UnsupportedSql.into());
     }
     if has_returning(d) {
-        return unresolved(Class::UnsupportedSql);
+        return Err(Class::UnsupportedSql.into());
     }
     if has_order_by(d) {
-        return unresolved(Class::UnsupportedSql);
+        return Err(Class::UnsupportedSql.into());
     }
     if has_limit(d) {
-        return unresolved(Class::UnsupportedSql);
+        return Err(Class::UnsupportedSql.into());
     }
     let f = from_of(d);
     let code = from_code(f);
     if code == 0 {
-        return unresolved(Class::UnsupportedSql);
+        return Err(Class::UnsupportedSql.into());
     }
     if code == 1 {
-        return unresolved(Class::UnsupportedSql);
+        return Err(Class::UnsupportedSql.into());
     }
     resolve_direct_table(c, table_of(f))
 }
@@ -79,7 +79,7 @@ pub fn analyze_delete(c: &[u8], d: &[u8]) -> Result<usize, Refusal>
         → result ≡ sized bound_statement (analyze_delete cat v) }
 {
     match deleted_table(c, d) {
-        Resolved::At(start, end) => delete_size(&c[start..end], condition_of(d)),
-        Resolved::Refused(r) => Err(r),
+        Ok(t) => delete_size(t, condition_of(d)),
+        Err(r) => Err(r),
     }
 }

@@ -5,11 +5,11 @@ use mathlib.Core.Bool.{Bool, false}
 use mathlib.Core.List.{List}
 use Rattle.std.proofs.Common.{Some, None}
 use mathlib.Core.Option.{Option, none, some}
-use Prim.Native.Nat.{ℕ, ◌+◌, ◌-◌, ◌≤◌}
+use Prim.Native.Nat.{ℕ, ◌+◌}
+use Rattle.std.specs.Prelude.{Option as Maybe, Some, None}
 use native.Mathlib.Omega.{arith}
 use lib.IntN.{ℤ}
-use lib.ListN.{length, drop, length-drop}
-use lib.Seq.{length-take-le}
+use lib.ListN.{length}
 use Rattle.rules.specs.declared.Class.TheVariants.{SchemaMismatch}
 use Rattle.rules.specs.declared.ExpressionType.{ExpressionType}
 use Rattle.rules.specs.declared.ExpressionType.TheVariants as type
@@ -22,10 +22,8 @@ use Rattle.rules.specs.Statements.{Name}
 use Rattle.rules.specs.Tables.{TableSchema}
 use Rattle.text_numbers.specs.Literal as literal
 use Rattle.catalogue_lookup.specs.declared.Column.{Column}
-use Rattle.catalogue_lookup.specs.declared.Named.{Named}
-use Rattle.catalogue_lookup.specs.declared.Named.TheVariants as named
 use Rattle.image_catalogue.specs.Layout.{table}
-use Rattle.catalogue_lookup.specs.Finds.{Lies, ColumnIs, FindsColumn}
+use Rattle.catalogue_lookup.specs.Finds.{ColumnIs, FindsColumn}
 use Rattle.bytes_bundle.specs.Held.{Is, Holds, held}
 use Rattle.image_value.specs.Parts.{value}
 use Rattle.image_bound.specs.Columns.{bound_column_ref}
@@ -63,24 +61,21 @@ number_bad none h = refl
 
 -- ---- columns
 
-span_length : {s : List ℕ} {a e : ℕ} {x : List ℕ} → Lies s a e x → length x ≡ e - a
-span_length {s} {a} {e} l = sym (ap length l.is) ∙ length-take-le (e - a) (drop a s) (omega (arith, length-drop a s, l.forth, l.within))
-
-module _ (t : List ℕ) (n : Name) (r : Named) (found : FindsColumn t (canonical n) r) where
+module _ (t : List ℕ) (n : Name) (r : Maybe Column) (found : FindsColumn t (canonical n) r) where
   -- the name that the table has is as long as the one that was looked for
-  pub column_span : Is table t → (c : Column) → r ≡ named.Is c → (c.start ≤ c.«end») × (c.«end» - c.start ≡ length n.text)
-  column_span i c p =
+  pub column_long : Is table t → (c : Column) → r ≡ Some c → length c.name.now ≡ length n.text
+  column_long i c p =
       held i (λ v h.
-      let w = subst (ColumnIs t (column_by_name v (canonical n))) p (found v h) in
-      (w.2.name.forth, sym (span_length w.2.name) ∙ name_length v n w.1))
+      let w = subst (ColumnIs (column_by_name v (canonical n))) p (found v h) in
+      ap length w.2.name ∙ name_length v n w.1)
 
   module _ (v : TableSchema) (h : Holds table t v) where
-    pub column_is : (c : Column) → r ≡ named.Is c → (m : Mark) → ((b : BoundColumnRef) → b.ty ≡ c.ty → b.nullable ≡ c.nullable → m ≡ column_mark b)
-        → (k : ℕ) → ((b : BoundColumnRef) → length b.name ≡ c.«end» - c.start → k ≡ length (bound_column_ref.write b))
+    pub column_is : (c : Column) → r ≡ Some c → (m : Mark) → ((b : BoundColumnRef) → b.ty ≡ c.ty → b.nullable ≡ c.nullable → m ≡ column_mark b)
+        → (k : ℕ) → ((b : BoundColumnRef) → length b.name ≡ length c.name.now → k ≡ length (bound_column_ref.write b))
         → marked.Is (run (k + 11) m) ≡ leaf_told (column_leaf (column_by_name v (canonical n)))
     column_is c p m f k g =
-        let w = subst (ColumnIs t (column_by_name v (canonical n))) p (found v h) in
-        rw w.1 (ap₂ (λ (x : Mark) (y : ℕ). marked.Is (run (y + 11) x)) (f w.0 (sym w.2.ty) (sym w.2.nullable)) (g w.0 (span_length w.2.name)))
+        let w = subst (ColumnIs (column_by_name v (canonical n))) p (found v h) in
+        rw w.1 (ap₂ (λ (x : Mark) (y : ℕ). marked.Is (run (y + 11) x)) (f w.0 (sym w.2.ty) (sym w.2.nullable)) (g w.0 (ap length (sym w.2.name))))
 
-    pub column_none : r ≡ named.Nothing → refused_with SchemaMismatch ≡ leaf_told (column_leaf (column_by_name v (canonical n)))
-    column_none p = let w = subst (ColumnIs t (column_by_name v (canonical n))) p (found v h) in rw w
+    pub column_none : r ≡ None → refused_with SchemaMismatch ≡ leaf_told (column_leaf (column_by_name v (canonical n)))
+    column_none p = let w = subst (ColumnIs (column_by_name v (canonical n))) p (found v h) in rw w

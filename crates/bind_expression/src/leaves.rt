@@ -17,7 +17,7 @@ ghost use Rattle.bind_expression.specs.Marks.{Markable, Marks};
 
 use crate::{Marked, Measured};
 use bind_fits::column_mark;
-use catalogue_lookup::{Named, find_column};
+use catalogue_lookup::find_column;
 use image_bound::columns::column_ref_len;
 use image_bound::nodes::NODE;
 use image_bound::values::{bool_len, int_len, null_len, text_len};
@@ -79,11 +79,8 @@ fn column(t: &[u8], quoted: bool, name: &[u8]) -> Marked
         → result ≡ leaf_told (column_leaf (lookup.column_by_name v (canonical (named quoted name.now)))) }
 {
     match find_column(t, quoted, name) {
-        Named::Is(c) => {
-            let ty = c.ty;
-            one_leaf(column_mark(ty, c.nullable), column_ref_len(c.end - c.start))
-        }
-        Named::Nothing => refuse(Class::SchemaMismatch),
+        Some(c) => one_leaf(column_mark(c.ty, c.nullable), column_ref_len(c.name.len())),
+        None => refuse(Class::SchemaMismatch),
     }
 }
 

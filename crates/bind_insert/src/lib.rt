@@ -18,7 +18,7 @@ ghost use Rattle.bind_insert.specs.Inserts.{insert_rows, insert_into};
 
 use bind_insert_columns::{Need, bind_columns, lacks};
 use bind_insert_rows::source_len;
-use bind_table::{Resolved, name_table};
+use bind_table::name_table;
 use image_bound::columns::table_ref_len;
 use image_insert::is_modified;
 use rules::{Class, Refusal};
@@ -70,7 +70,7 @@ pub fn analyze_insert(c: &[u8], i: &[u8]) -> Result<usize, Refusal>
         });
     }
     match name_table(c, image_insert::table_name(i)) {
-        Resolved::At(start, end) => analyze_into(&c[start..end], i),
-        Resolved::Refused(r) => Err(r),
+        Ok(t) => analyze_into(t, i),
+        Err(r) => Err(r),
     }
 }

@@ -1,6 +1,6 @@
 -- The target columns of an INSERT one by one, and the columns that it must not leave out.
 -- Assumes nothing.
-use Rattle.std.specs.Prelude.{◌≡◌, refl, Bool, true, false, not, ◌&&◌, ◌||◌, ℕ, zero, suc, ◌+◌, ◌-◌, ◌≤◌, ◌<◌, eqb, length, drop, set}
+use Rattle.std.specs.Prelude.{◌≡◌, refl, Bool, true, false, not, ◌&&◌, ◌||◌, ℕ, zero, suc, ◌+◌, ◌-◌, ◌≤◌, ◌<◌, eqb, length, drop, set, Option as Maybe, Some, None}
 use Rattle.std.proofs.Math.Path.{sym, ap, ap₂, subst}
 use Rattle.std.proofs.Common.{◌∙◌, add-one, arith, drop_of_length-le, leb-true, eqb-true, eq-eqb, ne_eqb}
 use mathlib.Core.List.{List, [], ◌∷◌, ◌++◌, map, map-append}
@@ -16,8 +16,6 @@ use Rattle.bytes_bundle.specs.Held.{Is, Holds, is_held, Along, turn, part_is, he
 use Rattle.image_value.specs.Parts.{column_schema}
 use Rattle.image_catalogue.specs.Layout.{table}
 use Rattle.catalogue_lookup.specs.declared.Column.{Column}
-use Rattle.catalogue_lookup.specs.declared.Named.{Named}
-use Rattle.catalogue_lookup.specs.declared.Named.TheVariants as named
 use Rattle.catalogue_lookup.specs.Finds.{ColumnIs, FindsColumn}
 use Rattle.image_catalogue.specs.Entries.{find_hit, find_miss, any_hit, any_miss}
 use Rattle.image_parts.specs.Layout.{name}
@@ -32,7 +30,6 @@ use Rattle.rules.specs.Names.{canonical}
 use Rattle.rules.specs.Statements.{Name}
 use Rattle.rules.specs.Analyze.{insert_columns, missing}
 use Rattle.image_bound.specs.Columns.{bound_column_ref}
-use Rattle.bind_repeats.specs.declared.Repeat.{Repeat}
 use Rattle.bind_repeats.specs.declared.Of.TheVariants as of
 use Rattle.bind_repeats.specs.Repeats.{alike, is_at, any_last, any_plain, take_next, drop_map, take_map, Reached, reached_none, reached_turn, reached_on}
 use Rattle.bind_repeats.specs.Entries.{entry, short_name, AllShort, FindsRepeat, entries_plain}
@@ -105,6 +102,13 @@ name_part {s} {i} a d = (
 -- the text of such a name
 pub text_within : {p s : List ℕ} → Is name p × ShortText p → ((v : Name) → Holds name p v → s ≡ v.text) → length s ≤ 128
 text_within a f = held a.0 (λ v h. subst (λ (s : List ℕ). length s ≤ 128) (sym (f v h)) (a.1.short v h))
+
+-- the name of the column that was found by such a name
+pub column_within : {t p : List ℕ} {r : Maybe Column} {c : Column} → Is table t → Is name p × ShortText p → ((v : Name) → Holds name p v → FindsColumn t (canonical v) r)
+    → r ≡ Some c → length c.name.now ≤ 128
+column_within i a look q = held i (λ v ht. held a.0 (λ n h.
+    let o = subst (ColumnIs (column_by_name v (canonical n))) q (look n h v ht) in
+    omega (arith, ap length o.2.name, column_named_lem v (canonical n) o.1, canonical_length n, a.1.short n h)))
 
 -- ---- a column among the names
 
@@ -214,7 +218,7 @@ binding = record {
   };
 }
 
-module _ {t s codes : List ℕ} {i total at e : ℕ} (w : Binding t s codes i total) (d : Stepped 2 s i at e) {place : Repeat} (f : FindsRepeat of.Names s place) where
+module _ {t s codes : List ℕ} {i total at e : ℕ} (w : Binding t s codes i total) (d : Stepped 2 s i at e) {place : Maybe ℕ} (f : FindsRepeat of.Names s place) where
   module _ (v : TableSchema) (ns : List Name) (ht : Holds table t v) (hs : Holds (list_of 2 name) s ns) where
     abbrev p : Passed v ns codes i total
     p = w.at v ns ht hs
@@ -246,25 +250,25 @@ module _ {t s codes : List ℕ} {i total at e : ℕ} (w : Binding t s codes i to
       grown_refused g.grown
       (ap (insert_columns v g.before) (rest v ns ht hs) ∙ columns_repeated v g.before _ _ (sym (repeats v ns ht hs) ∙ q))
 
-  module _ (q : is_at i place ≡ false) {r : Named} (look : (m : Name) → Holds name (take (e - at) (drop at s)) m → FindsColumn t (canonical m) r) where
-    pub bind_unknown : r ≡ named.Nothing → (v : TableSchema) (ns : List Name) → Holds table t v → Holds (list_of 2 name) s ns
+  module _ (q : is_at i place ≡ false) {r : Maybe Column} (look : (m : Name) → Holds name (take (e - at) (drop at s)) m → FindsColumn t (canonical m) r) where
+    pub bind_unknown : r ≡ None → (v : TableSchema) (ns : List Name) → Holds table t v → Holds (list_of 2 name) s ns
         → Err (classed SchemaMismatch) ≡ sized (list_of 4 bound_column_ref) (insert_columns v [] (texts ns))
     bind_unknown x v ns ht hs =
         let g = p v ns ht hs in
-        let o = subst (ColumnIs t (column_by_name v (canonical (n v ns ht hs)))) x (look (n v ns ht hs) (turn d hs).holds v ht) in
+        let o = subst (ColumnIs (column_by_name v (canonical (n v ns ht hs)))) x (look (n v ns ht hs) (turn d hs).holds v ht) in
         grown_refused g.grown
         (ap (insert_columns v g.before) (rest v ns ht hs) ∙ columns_unknown v g.before _ _ (sym (repeats v ns ht hs) ∙ q) o)
 
     -- one column more: its byte, and its length
-    pub bind_more : {c : Column} {code m : ℕ} → r ≡ named.Is c → code ≡ code_of c.ty c.nullable
-        → ((k : Name) (b : BoundColumnRef) → Holds name (take (e - at) (drop at s)) k → length b.name ≡ length k.text → m ≡ length (bound_column_ref.write b))
+    pub bind_more : {c : Column} {code m : ℕ} → r ≡ Some c → code ≡ code_of c.ty c.nullable
+        → ((b : BoundColumnRef) → length b.name ≡ length c.name.now → m ≡ length (bound_column_ref.write b))
         → i < length codes → Binding t s (set codes i code) (i + 1) (total + (4 + m))
     unfolding column_code
     bind_more {c} {code} {m} x y long few = record {
       at = λ v ns ht hs.
           let g = p v ns ht hs in
           let k = n v ns ht hs in
-          let o = subst (ColumnIs t (column_by_name v (canonical k))) x (look k (turn d hs).holds v ht) in
+          let o = subst (ColumnIs (column_by_name v (canonical k))) x (look k (turn d hs).holds v ht) in
           let b = o.0 in
           let none = sym (repeats v ns ht hs) ∙ q in
           let z : code ≡ column_code b = y ∙ ap₂ code_of o.2.ty o.2.nullable in
@@ -277,7 +281,7 @@ module _ {t s codes : List ℕ} {i total at e : ℕ} (w : Binding t s codes i to
             grown =
                 grown_more g.grown (insert_columns v (canonical k ∷ g.before) (texts (drop (i + 1) ns))) b
                 (ap (insert_columns v g.before) (rest v ns ht hs) ∙ columns_next v g.before _ _ none o.1)
-                (long k b (turn d hs).holds (column_named_lem v (canonical k) o.1 ∙ canonical_length k));
+                (long b (ap length (sym o.2.name)));
             coded =
                 ap (λ (j : ℕ). take j (set codes i code)) (add-one i) ∙ take-suc-set codes i code few
                 ∙ ap₂ (λ (l : List ℕ) (a : ℕ). l ++ a ∷ []) g.coded z ∙ sym (map-append column_code g.grown.done (b ∷ []));

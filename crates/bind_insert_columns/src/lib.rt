@@ -19,7 +19,7 @@ ghost use Rattle.bind_insert_columns.specs.Coded.{code_of};
 ghost use Rattle.bind_insert_columns.specs.Columns.{Targets, is_among, needed, lacking, ColumnsBound};
 
 use bind_repeats::{Of, first_repeated, is_at};
-use catalogue_lookup::{Named, find_column, in_key};
+use catalogue_lookup::{Column, find_column, in_key};
 use image_bound::columns::column_ref_len;
 use image_catalogue::{column_id, column_name, column_nullable};
 use image_parts::names::{name_is_quoted, name_text};
@@ -55,7 +55,7 @@ fn code_of(ty: DataType, nullable: bool) -> u8
 }
 
 // The column that a name of the statement stands for.
-pub fn find_target(t: &[u8], n: &[u8]) -> Named
+pub fn find_target<'a>(t: &'a [u8], n: &[u8]) -> Option<Column<'a>>
     requires { Is table t.now × (Is name n.now × ShortText n.now) }
     ensures { (v : Name) → Holds name n.now v → FindsColumn t.now (canonical v) result }
 {
@@ -80,18 +80,13 @@ pub fn bind_columns(t: &[u8], names: &[u8], codes: &mut [u8; 64]) -> Result<usiz
                 class: Class::ConstraintViolation,
             });
         }
-        match find_target(t, &names[at..end]) {
-            Named::Is(c) => {
-                let ty = c.ty;
-                codes[i] = code_of(ty, c.nullable);
-                total += 4 + column_ref_len(name_text(&names[at..end]).len());
-            }
-            Named::Nothing => {
-                return Err(Refusal {
-                    class: Class::SchemaMismatch,
-                });
-            }
-        }
+        let Some(c) = find_target(t, &names[at..end]) else {
+            return Err(Refusal {
+                class: Class::SchemaMismatch,
+            });
+        };
+        codes[i] = code_of(c.ty, c.nullable);
+        total += 4 + column_ref_len(c.name.len());
         at = end;
         i += 1;
     }

@@ -11,7 +11,7 @@ use Rattle.bytes_format.proofs.Formats.{list_of}
 use Rattle.bytes_bundle.specs.Bundle.{Stepped}
 use Rattle.bytes_bundle.specs.Held.{Holds, Along, Turn, turn, list_count, same}
 use Rattle.rules.specs.Lists.{Text, any}
-use Rattle.bind_repeats.specs.declared.Repeat.TheVariants.{Nowhere, At}
+use Rattle.std.specs.Prelude.{Some, None}
 use Rattle.bind_repeats.specs.declared.Of.{Of}
 use Rattle.bind_repeats.specs.Repeats.{alike, any_last, take_next, drop_map, Reached, reached_none, reached_hit, reached_on, reached_end}
 use Rattle.bind_repeats.specs.Entries.{Entry, form, entry, Compares, FindsRepeat}
@@ -55,7 +55,7 @@ module _ {o : Of} {s p : List ℕ} {j from to : ℕ} (d : Stepped 2 s j from to)
   }
 
   -- entry i is like entry j
-  pub repeat_found : {i at e : ℕ} → Searching o s i → Stepped 2 s i at e → p ≡ take (e - at) (drop at s) → j < i → r ≡ true → FindsRepeat o s (At i)
+  pub repeat_found : {i at e : ℕ} → Searching o s i → Stepped 2 s i at e → p ≡ take (e - at) (drop at s) → j < i → r ≡ true → FindsRepeat o s (Some i)
   repeat_found {i} f g q l e vs k =
       let t = turn g k in
       let u = turn d k in
@@ -71,7 +71,7 @@ module _ {o : Of} {s : List ℕ} {i : ℕ} (f : Searching o s i) where
         reached_on (f.at vs k) (turned o t) (ap (λ (n : ℕ). any (alike (entry o t.value)) (take n (names o vs))) (sym q) ∙ l.is t.value t.holds vs k);
   }
 
-  pub no_repeat : {n at : ℕ} → Along s n i at → n ≤ i → FindsRepeat o s Nowhere
+  pub no_repeat : {n at : ℕ} → Along s n i at → n ≤ i → FindsRepeat o s None
   no_repeat a l vs k =
       let z : length (names o vs) ≤ i = omega (arith, a.count, list_count (form o) s k, length-map vs (entry o)) in
       sym (reached_end (f.at vs k) z)

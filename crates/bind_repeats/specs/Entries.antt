@@ -1,6 +1,6 @@
 -- What has a name in a list: the kinds of entries, the name that each has, and what a search over a list's bytes answers.
 -- Assumes nothing.
-use Rattle.std.specs.Prelude.{◌≡◌, refl, Bool, true, List, [], ◌∷◌, map, ℕ}
+use Rattle.std.specs.Prelude.{◌≡◌, refl, Bool, true, List, [], ◌∷◌, map, ℕ, Option as Maybe}
 use Rattle.std.proofs.Common.{ap}
 use Rattle.std.proofs.Math.Option.{Option, none, some}
 use Rattle.bytes_format.specs.Format.{Format}
@@ -11,7 +11,6 @@ use Rattle.rules.specs.Names.{canonical}
 use Rattle.rules.specs.Limits.{name_within}
 use Rattle.rules.specs.Statements.{Name, ObjectName, plain, qualified, ColumnDefinition, Target, target, tuple, Assignment}
 use Rattle.image_parts.specs.Layout.{name, column_definition, assignment}
-use Rattle.bind_repeats.specs.declared.Repeat.{Repeat}
 use Rattle.bind_repeats.specs.declared.Of.{Of}
 use Rattle.bind_repeats.specs.declared.Of.TheVariants as of
 use Rattle.bind_repeats.specs.Repeats.{alike, first_repeated}
@@ -98,7 +97,7 @@ abbrev pub ComparesNames : List ℕ → List ℕ → Bool → Type 0
 ComparesNames p q r = (v w : Option Name) → Holds maybe_name p v → Holds maybe_name q w → r ≡ alike_names v w
 
 -- the place of the first entry that repeats an earlier one
-abbrev pub FindsRepeat : Of → List ℕ → Repeat → Type 0
+abbrev pub FindsRepeat : Of → List ℕ → Maybe ℕ → Type 0
 FindsRepeat o s r = (vs : List (Entry o)) → Holds (list_of 2 (form o)) s vs → r ≡ first_repeated (map (entry o) vs)
 
 -- ---- names that are all there

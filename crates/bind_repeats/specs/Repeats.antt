@@ -1,13 +1,11 @@
 -- The first entry that repeats an earlier one, found in the order in which the rules look at entries.
 -- Assumes nothing.
-use Rattle.std.specs.Prelude.{◌≡◌, refl, Bool, true, false, ◌||◌, List, [], ◌∷◌, ◌++◌, map, ℕ, zero, suc, ◌+◌, ◌≤◌, ◌<◌, eqb, length, take, drop}
+use Rattle.std.specs.Prelude.{◌≡◌, refl, Bool, true, false, ◌||◌, List, [], ◌∷◌, ◌++◌, map, ℕ, zero, suc, ◌+◌, ◌≤◌, ◌<◌, eqb, length, take, drop, Option as Maybe, Some, None}
 use Rattle.std.proofs.Common.{sym, ◌∙◌, add-one, arith, drop_of_length-le, eq-eqb, ne_eqb}
 use Rattle.std.proofs.Math.Path.{ap}
 use Rattle.std.proofs.Math.Bool.{cond}
 use Rattle.std.proofs.Math.Option.{Option, none, some}
 use Rattle.rules.specs.Lists.{Text, same, any}
-use Rattle.bind_repeats.specs.declared.Repeat.{Repeat}
-use Rattle.bind_repeats.specs.declared.Repeat.TheVariants.{Nowhere, At}
 
 -- two entries by the names that they are compared by; one without a name is like none
 abbrev pub alike : Option Text → Option Text → Bool
@@ -16,30 +14,30 @@ alike (some x) none = false
 alike (some x) (some y) = same x y
 
 -- of entries from number i on; `before` are those before them, the last one first
-unfoldable pub repeating : ℕ → List (Option Text) → List (Option Text) → Repeat
-repeating i before [] = Nowhere
-repeating i before (x ∷ l) = cond (any (alike x) before) (At i) (repeating (i + 1) (x ∷ before) l)
+unfoldable pub repeating : ℕ → List (Option Text) → List (Option Text) → Maybe ℕ
+repeating i before [] = None
+repeating i before (x ∷ l) = cond (any (alike x) before) (Some i) (repeating (i + 1) (x ∷ before) l)
 
-abbrev pub first_repeated : List (Option Text) → Repeat
+abbrev pub first_repeated : List (Option Text) → Maybe ℕ
 first_repeated l = repeating 0 [] l
 
-abbrev pub is_at : ℕ → Repeat → Bool
-is_at i Nowhere = false
-is_at i (At k) = eqb k i
+abbrev pub is_at : ℕ → Maybe ℕ → Bool
+is_at i None = false
+is_at i (Some k) = eqb k i
 
 -- ---- a loop over the entries, beside the rules
 
 module _ (i : ℕ) (before : List (Option Text)) (x : Option Text) (l : List (Option Text)) where
-  pub repeat_hit : any (alike x) before ≡ true → repeating i before (x ∷ l) ≡ At i
+  pub repeat_hit : any (alike x) before ≡ true → repeating i before (x ∷ l) ≡ Some i
   unfolding repeating
-  repeat_hit e = ap (λ (b : Bool). cond b (At i) (repeating (i + 1) (x ∷ before) l)) e
+  repeat_hit e = ap (λ (b : Bool). cond b (Some i) (repeating (i + 1) (x ∷ before) l)) e
 
   -- an entry that repeats none is passed
   pub repeat_pass : any (alike x) before ≡ false → repeating i before (x ∷ l) ≡ repeating (i + 1) (x ∷ before) l
   unfolding repeating
-  repeat_pass e = ap (λ (b : Bool). cond b (At i) (repeating (i + 1) (x ∷ before) l)) e
+  repeat_pass e = ap (λ (b : Bool). cond b (Some i) (repeating (i + 1) (x ∷ before) l)) e
 
-pub repeat_end : (i : ℕ) (before : List (Option Text)) → repeating i before [] ≡ Nowhere
+pub repeat_end : (i : ℕ) (before : List (Option Text)) → repeating i before [] ≡ None
 unfolding repeating
 repeat_end i before = refl
 
@@ -49,7 +47,7 @@ unfolding repeating
 later j i before [] h = refl
 later j i before (x ∷ l) h = go (later j (i + 1) (x ∷ before) l (omega arith)) (any (alike x) before)
   where
-    go : is_at j (repeating (i + 1) (x ∷ before) l) ≡ false → (b : Bool) → is_at j (cond b (At i) (repeating (i + 1) (x ∷ before) l)) ≡ false
+    go : is_at j (repeating (i + 1) (x ∷ before) l) ≡ false → (b : Bool) → is_at j (cond b (Some i) (repeating (i + 1) (x ∷ before) l)) ≡ false
     go k true = ne_eqb i j (λ e. omega (arith, e))
     go k false = k
 
@@ -58,7 +56,7 @@ pub repeat_turn : (i : ℕ) (before : List (Option Text)) (x : Option Text) (l :
 unfolding repeating
 repeat_turn i before x l = go (any (alike x) before)
   where
-    go : (b : Bool) → is_at i (cond b (At i) (repeating (i + 1) (x ∷ before) l)) ≡ b
+    go : (b : Bool) → is_at i (cond b (Some i) (repeating (i + 1) (x ∷ before) l)) ≡ b
     go true = eq-eqb i i refl
     go false = later i (i + 1) (x ∷ before) l (omega arith)
 
@@ -128,7 +126,7 @@ module _ {l : List (Option Text)} {i : ℕ} (r : Reached l i) {x : Option Text} 
   reached_turn =
       ap (is_at i) (r.is ∙ ap (repeating i r.before) d) ∙ repeat_turn i r.before x m ∙ r.same (alike x)
 
-  pub reached_hit : any (alike x) (take i l) ≡ true → first_repeated l ≡ At i
+  pub reached_hit : any (alike x) (take i l) ≡ true → first_repeated l ≡ Some i
   reached_hit e = r.is ∙ ap (repeating i r.before) d ∙ repeat_hit i r.before x m (r.same (alike x) ∙ e)
 
   pub reached_on : any (alike x) (take i l) ≡ false → Reached l (i + 1)
@@ -141,5 +139,5 @@ module _ {l : List (Option Text)} {i : ℕ} (r : Reached l i) {x : Option Text} 
   }
 
 -- it has reached the end
-pub reached_end : {l : List (Option Text)} {i : ℕ} → Reached l i → length l ≤ i → first_repeated l ≡ Nowhere
+pub reached_end : {l : List (Option Text)} {i : ℕ} → Reached l i → length l ≤ i → first_repeated l ≡ None
 reached_end {l} {i} r h = r.is ∙ ap (repeating i r.before) (drop_of_length-le l {i = i} h) ∙ repeat_end i r.before

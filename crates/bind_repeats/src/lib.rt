@@ -20,20 +20,11 @@ pub enum Of {
     Targets,
 }
 
-#[derive(Clone, Copy)]
-pub enum Repeat {
-    Nowhere,
-    At(usize),
-}
-
 // Whether the place is entry i.
-pub fn is_at(place: Repeat, i: usize) -> bool
+pub fn is_at(place: Option<usize>, i: usize) -> bool
     ensures { result ≡ is_at i place }
 {
-    match place {
-        Repeat::Nowhere => false,
-        Repeat::At(k) => k == i,
-    }
+    place == Some(i)
 }
 
 // Whether two names are one.
@@ -102,16 +93,15 @@ fn are_alike(a: &[u8], b: &[u8]) -> bool
     are_alike_names(a, b)
 }
 
-// The first entry that repeats an earlier one: both loops are left at once.
-pub fn first_repeated(s: &[u8], of: Of) -> Repeat
+// The first entry that repeats an earlier one.
+pub fn first_repeated(s: &[u8], of: Of) -> Option<usize>
     requires { AllShort of s.now }
     ensures { FindsRepeat of s.now result }
 {
     let n = bytes_bundle::parts(s, 2);
-    let mut place = Repeat::Nowhere;
     let mut at = bytes_bundle::first(s, 2);
     let mut i = 0;
-    'search: while i < n {
+    while i < n {
         let end = bytes_bundle::next(s, 2, i, at);
         let name = named(&s[at..end], of);
         let mut from = bytes_bundle::first(s, 2);
@@ -119,8 +109,7 @@ pub fn first_repeated(s: &[u8], of: Of) -> Repeat
         while j < i {
             let to = bytes_bundle::next(s, 2, j, from);
             if are_alike(name, named(&s[from..to], of)) {
-                place = Repeat::At(i);
-                break 'search;
+                return Some(i);
             }
             from = to;
             j += 1;
@@ -128,5 +117,5 @@ pub fn first_repeated(s: &[u8], of: Of) -> Repeat
         at = end;
         i += 1;
     }
-    place
+    None
 }

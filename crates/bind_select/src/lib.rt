@@ -21,10 +21,10 @@ ghost use Rattle.bind_select.specs.Entries.{column_entries};
 ghost use Rattle.bind_select.specs.Selects.{selected_table, selected_rows, Filter, added};
 ghost use Rattle.bind_select.specs.Within.{QueryWithin, SelectWithin, ItemsWithin, ItemWithin};
 
-use bind_table::{Resolved, resolve_direct_table, unresolved};
+use bind_table::resolve_direct_table;
 use bind_table_ref::table_size;
 use bind_where::filter_size;
-use catalogue_lookup::{Named, find_column};
+use catalogue_lookup::{Column, find_column};
 use image_bound::columns::column_ref_len;
 use image_bound::fields::count_len;
 use image_catalogue::{column_name, columns};
@@ -37,17 +37,17 @@ use image_select::{
 use rules::{Class, Refusal};
 
 // The one table that a SELECT reads, which has no clause that is not supported.
-pub fn selected_table(c: &[u8], s: &[u8]) -> Resolved
+pub fn selected_table<'a>(c: &'a [u8], s: &[u8]) -> Result<&'a [u8], Refusal>
     requires { Is (list_of 2 table) c.now × SelectWithin s.now }
     ensures { (cat : Catalogue) (v : Select) → Holds (list_of 2 table) c.now cat → Holds layout.select s.now v
-        → ResolvedAs c.now (selected_table cat v) result }
+        → ResolvedAs (selected_table cat v) result }
 {
     if has_features(s) {
-        return unresolved(Class::UnsupportedSql);
+        return Err(Class::UnsupportedSql.into());
     }
     let f = from_of(s);
     if from_code(f) == 0 {
-        return unresolved(Class::UnsupportedSql);
+        return Err(Class::UnsupportedSql.into());
     }
     resolve_direct_table(c, table_of(f))
 }
@@ -82,7 +82,7 @@ fn columns_size(s: &[u8]) -> usize
     sum
 }
 
-pub fn column_called(t: &[u8], n: &[u8]) -> Named
+pub fn column_called<'a>(t: &'a [u8], n: &[u8]) -> Option<Column<'a>>
     requires { Is table t.now × (Is layout.name n.now × ShortText n.now) }
     ensures { Calls t.now n.now result }
 {
@@ -96,12 +96,8 @@ fn column_size(t: &[u8], n: &[u8]) -> Result<usize, Refusal>
     ensures told { (v : TableSchema) (x : Name) → Holds table t.now v → Holds layout.name n.now x → result ≡ added (item v (column x)) }
 {
     match column_called(t, n) {
-        Named::Is(c) => {
-            let start = c.start;
-            let end = c.end;
-            Ok(entry_len(end - start))
-        }
-        Named::Nothing => Err(Refusal {
+        Some(c) => Ok(entry_len(c.name.len())),
+        None => Err(Refusal {
             class: Class::SchemaMismatch,
         }),
     }
@@ -189,7 +185,7 @@ pub fn analyze_select(c: &[u8], q: &[u8]) -> Result<usize, Refusal>
     }
     let s = select_of(b);
     match selected_table(c, s) {
-        Resolved::At(start, end) => select_size(&c[start..end], s),
-        Resolved::Refused(r) => Err(r),
+        Ok(t) => select_size(t, s),
+        Err(r) => Err(r),
     }
 }

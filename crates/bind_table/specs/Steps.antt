@@ -3,21 +3,20 @@
 -- `sized_refused`.
 -- Assumes nothing.
 use Rattle.std.proofs.Math.Path.{◌≡◌, ap}
-use Rattle.std.specs.Prelude.{refl, Bool, true, false, List, ℕ, Result, Ok, Err, IsErrAnd}
+use Rattle.std.specs.Prelude.{refl, Bool, true, false, List, ℕ, Result, Ok, Err, IsErrAnd, Option as Maybe, Some, None, ok_or}
+use Rattle.std.specs.Borrow.{Bor}
 use Rattle.std.proofs.Common.{sym, ◌∙◌, subst, arith}
 use Rattle.std.proofs.Math.Option.{Option, none, some}
 use Rattle.std.proofs.Math.ListN.{length}
 use Rattle.std.proofs.lemmas.Result.{err_from_is_err_and}
 use Rattle.bytes_format.specs.Format.{Format}
 use Rattle.image_catalogue.specs.Layout.{table}
-use Rattle.catalogue_lookup.specs.Finds.{LiesAs}
+use Rattle.bytes_bundle.specs.Held.{Holds}
 use Rattle.rules.specs.declared.Class.{Class}
 use Rattle.rules.specs.declared.Refusal.{Refusal}
 use Rattle.rules.specs.Answers.{Answer, given, refused, refuse_if, found, ◌>>=◌, ◌>>◌, Verdict, fine, flaw, judged}
 use Rattle.rules.specs.Tables.{TableSchema}
 use Rattle.rules.proofs.Theorems.Answered.{mapped}
-use Rattle.bind_table.specs.declared.Resolved.{Resolved}
-use Rattle.bind_table.specs.declared.Resolved.TheVariants as resolved
 use Rattle.bind_table.specs.Told.{told, sized, ResolvedAs}
 
 -- the refusal of a class
@@ -119,20 +118,26 @@ module _ {A : Type 0} (f : Format A) {m : Result ℕ Refusal} where
 
 -- ---- the table of a statement
 
--- an answer gave a table that lies in the catalogue s
-pub record TableGiven (s : List ℕ) (a : Answer TableSchema) (b e : ℕ) : Type 0 where
+-- what is answered where there is none: the refusal that a class became
+pub off_resolved : (a : Answer TableSchema) {r k : Refusal} → r ≡ k → a ≡ refused k → ResolvedAs a (Err r)
+off_resolved a q e = e ∙ ap refused (sym q)
+
+-- what is answered from a lookup
+pub looked_up : (a : Answer TableSchema) (o : Maybe (Bor (List ℕ))) {k : Refusal} → ((p : Bor (List ℕ)) → o ≡ Some p → ResolvedAs a (Ok p)) → (o ≡ None → a ≡ refused k)
+    → ResolvedAs a (ok_or o k)
+looked_up a (Some p) f g = f p refl
+looked_up a None f g = g refl
+
+-- an answer gave a table, whose bytes are p
+pub record TableGiven (a : Answer TableSchema) (p : List ℕ) : Type 0 where
   pub value : TableSchema
   pub gives : a ≡ given value
-  pub lies : LiesAs table s b e value
-
--- what is answered where there is none
-pub off_resolved : (s : List ℕ) (a : Answer TableSchema) {r : Resolved} {k : Refusal} → r ≡ resolved.Refused k → a ≡ refused k → ResolvedAs s a r
-off_resolved s a q e = subst (ResolvedAs s a) (sym q) e
+  pub holds : Holds table p value
 
 -- what a callee that resolves has said, by the case that it answered
-module _ (s : List ℕ) (a : Answer TableSchema) {r : Resolved} (h : ResolvedAs s a r) where
-  pub resolved_at : {b e : ℕ} → r ≡ resolved.At b e → TableGiven s a b e
-  resolved_at {b} {e} q = let t = subst (ResolvedAs s a) q h in record { value = t.0; gives = t.1; lies = t.2 }
+module _ (a : Answer TableSchema) {r : Result (Bor (List ℕ)) Refusal} (h : ResolvedAs a r) where
+  pub resolved_is : {p : Bor (List ℕ)} → r ≡ Ok p → TableGiven a p.now
+  resolved_is q = let t = subst (ResolvedAs a) q h in record { value = t.0; gives = t.1; holds = t.2 }
 
-  pub resolved_off : {k : Refusal} → r ≡ resolved.Refused k → a ≡ refused k
-  resolved_off q = subst (ResolvedAs s a) q h
+  pub resolved_off : {k : Refusal} → r ≡ Err k → a ≡ refused k
+  resolved_off q = subst (ResolvedAs a) q h

@@ -1,15 +1,14 @@
 -- What the analysis of a statement answers, in the declared types of this crate.
 -- Assumes nothing: these are definitions.
 use Rattle.std.specs.Prelude.{◌≡◌, List, ℕ, length, Result, Ok, Err}
+use Rattle.std.specs.Borrow.{Bor}
 use Rattle.bytes_format.specs.Format.{Format}
 use Rattle.image_catalogue.specs.Layout.{table}
-use Rattle.catalogue_lookup.specs.Finds.{LiesAs}
+use Rattle.bytes_bundle.specs.Held.{Holds}
 use Rattle.rules.specs.declared.Refusal.{Refusal}
 use Rattle.rules.specs.Answers.{Answer, given, refused}
 use Rattle.rules.specs.Tables.{TableSchema}
 use Rattle.rules.proofs.Theorems.Answered.{mapped}
-use Rattle.bind_table.specs.declared.Resolved.{Resolved}
-use Rattle.bind_table.specs.declared.Resolved.TheVariants as resolved
 
 abbrev pub told : Answer ℕ → Result ℕ Refusal
 told (given n) = Ok n
@@ -19,7 +18,7 @@ told (refused r) = Err r
 unfoldable pub sized : {A : Type 0} → Format A → Answer A → Result ℕ Refusal
 sized f a = told (mapped (λ v. length (f.write v)) a)
 
--- the table that an answer gives lies in the catalogue's bytes s, or it is the answer's refusal
-abbrev pub ResolvedAs : List ℕ → Answer TableSchema → Resolved → Type 0
-ResolvedAs s a (resolved.At b e) = (t : TableSchema) × (a ≡ given t) × LiesAs table s b e t
-ResolvedAs s a (resolved.Refused r) = a ≡ refused r
+-- the bytes of the table that an answer gives, or the answer's refusal
+abbrev pub ResolvedAs : Answer TableSchema → Result (Bor (List ℕ)) Refusal → Type 0
+ResolvedAs a (Ok p) = (t : TableSchema) × (a ≡ given t) × Holds table p.now t
+ResolvedAs a (Err r) = a ≡ refused r

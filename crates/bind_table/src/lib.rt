@@ -11,70 +11,55 @@ ghost use Rattle.rules.specs.Analyze.{resolve_direct_table};
 ghost use Rattle.rules.specs.Names.{canonical};
 ghost use Rattle.rules.specs.Statements.{Name, ObjectName, TableWithJoins};
 ghost use Rattle.rules.specs.Tables.{Catalogue};
-ghost use Rattle.bind_table.specs.declared.Resolved.TheVariants as resolved;
 ghost use Rattle.bind_table.specs.Told.{sized, ResolvedAs};
 ghost use Rattle.bind_table.specs.Steps.{classed};
 ghost use Rattle.bind_table.specs.Short.{ShortText, ShortName, ShortTable};
 ghost use Rattle.bind_table.specs.Tables.{named_table, new_name};
 
-use catalogue_lookup::{Found, find_table};
+use catalogue_lookup::find_table;
 use image_parts::names::{name_is_quoted, name_text, object_name_code, only_name};
 use image_parts::table::{
     has_joins, relation_code, relation_is_marked, relation_name, relation_of,
 };
 use rules::{Class, Refusal};
 
-// Where a table begins and ends in the catalogue's image, or the refusal.
-#[derive(Clone, Copy)]
-pub enum Resolved {
-    At(usize, usize),
-    Refused(Refusal),
-}
-
-pub fn unresolved(class: Class) -> Resolved
-    ensures { result ≡ resolved.Refused (classed class) }
-{
-    Resolved::Refused(Refusal { class })
 }
 
 // The table that a name of one part stands for.
-fn find_named(c: &[u8], n: &[u8]) -> Found
+fn find_named<'a>(c: &'a [u8], n: &[u8]) -> Option<&'a [u8]>
     requires { Is (list_of 2 table) c.now × (Is name n.now × ShortText n.now) }
     ensures { (v : Name) → Holds name n.now v → FindsTable c.now (canonical v) result }
 {
     find_table(c, name_is_quoted(n), name_text(n))
 }
 
-// The table that an object name stands for.
-pub fn name_table(c: &[u8], n: &[u8]) -> Resolved
+// The table that an object name stands for: its bytes in the catalogue, or the refusal.
+pub fn name_table<'a>(c: &'a [u8], n: &[u8]) -> Result<&'a [u8], Refusal>
     requires { Is (list_of 2 table) c.now × (Is object_name n.now × ShortName n.now) }
     ensures { (cat : Catalogue) (o : ObjectName) → Holds (list_of 2 table) c.now cat → Holds object_name n.now o
-        → ResolvedAs c.now (named_table cat o) result }
+        → ResolvedAs (named_table cat o) result }
 {
     if object_name_code(n) == 0 {
-        return unresolved(Class::UnsupportedSql);
+        return Err(Class::UnsupportedSql.into());
     }
-    match find_named(c, only_name(n)) {
-        Found::At(start, end) => Resolved::At(start, end),
-        Found::Nothing => unresolved(Class::SchemaMismatch),
-    }
+    find_named(c, only_name(n)).ok_or(Class::SchemaMismatch.into())
 }
 
 // The one table of a SELECT, an UPDATE or a DELETE.
-pub fn resolve_direct_table(c: &[u8], w: &[u8]) -> Resolved
+pub fn resolve_direct_table<'a>(c: &'a [u8], w: &[u8]) -> Result<&'a [u8], Refusal>
     requires { Is (list_of 2 table) c.now × (Is table_with_joins w.now × ShortTable w.now) }
     ensures { (cat : Catalogue) (v : TableWithJoins) → Holds (list_of 2 table) c.now cat → Holds table_with_joins w.now v
-        → ResolvedAs c.now (resolve_direct_table cat v) result }
+        → ResolvedAs (resolve_direct_table cat v) result }
 {
     if has_joins(w) {
-        return unresolved(Class::UnsupportedSql);
+        return Err(Class::UnsupportedSql.into());
     }
     let s = relation_of(w);
     if relation_code(s) == 0 {
-        return unresolved(Class::UnsupportedSql);
+        return Err(Class::UnsupportedSql.into());
     }
     if relation_is_marked(s) {
-        return unresolved(Class::UnsupportedSql);
+        return Err(Class::UnsupportedSql.into());
     }
     name_table(c, relation_name(s))
 }
@@ -93,9 +78,9 @@ pub fn new_table_name(c: &[u8], n: &[u8]) -> Result<usize, Refusal>
     }
     let name = only_name(n);
     match find_named(c, name) {
-        Found::At(_, _) => Err(Refusal {
+        Some(_) => Err(Refusal {
             class: Class::ConstraintViolation,
         }),
-        Found::Nothing => Ok(name_text(name).len()),
+        None => Ok(name_text(name).len()),
     }
 }

@@ -1,6 +1,6 @@
 -- A loop over the bytes of the assignments that measures what they are bound to.
 -- Assumes nothing.
-use Rattle.std.specs.Prelude.{◌≡◌, Bool, List, [], ℕ, ◌+◌, ◌-◌, ◌≤◌, length, take, drop}
+use Rattle.std.specs.Prelude.{◌≡◌, Bool, List, [], ℕ, ◌+◌, ◌-◌, ◌≤◌, length, take, drop, Option as Maybe}
 use Rattle.std.proofs.Common.{ap, ◌∙◌, arith}
 use Rattle.bytes_format.proofs.Formats.{list_of}
 use Rattle.bytes_bundle.specs.Bundle.{parts_of, Stepped}
@@ -8,7 +8,6 @@ use Rattle.bytes_bundle.specs.Held.{Holds, held, list_count, Along, turn}
 use Rattle.image_bound.specs.Layout as layout
 use Rattle.image_catalogue.specs.Layout.{table}
 use Rattle.image_parts.specs.Layout.{assignment}
-use Rattle.bind_repeats.specs.declared.Repeat.{Repeat}
 use Rattle.bind_repeats.specs.declared.Of.TheVariants as of
 use Rattle.bind_repeats.specs.Repeats.{is_at, first_repeated}
 use Rattle.bind_repeats.specs.Entries.{FindsRepeat}
@@ -40,7 +39,7 @@ measuring_none = record { at = λ v xs hv hs. summed_none v xs }
 abbrev pub Judges : List ℕ → List ℕ → Bool → Result ℕ Refusal → Type 0
 Judges t p b m = (v : TableSchema) (x : Assignment) → Holds table t v → Holds assignment p x → m ≡ sized layout.assignment (judge_assignment b v x)
 
-module _ {t s : List ℕ} {i sum : ℕ} (o : Sound t) (g : Measuring t s i sum) {place : Repeat} (f : FindsRepeat of.Targets s place) where
+module _ {t s : List ℕ} {i sum : ℕ} (o : Sound t) (g : Measuring t s i sum) {place : Maybe ℕ} (f : FindsRepeat of.Targets s place) where
   module _ {at e : ℕ} (d : Stepped 2 s i at e) {b : Bool} (r : b ≡ is_at i place) {m : Result ℕ Refusal} (j : Judges t (take (e - at) (drop at s)) b m) where
     -- what was measured, at the place that the search for repeats found
     judges : (v : TableSchema) (xs : List Assignment) → Holds table t v → (hs : Holds (list_of 2 assignment) s xs)

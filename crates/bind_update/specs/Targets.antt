@@ -1,8 +1,8 @@
 -- The column that a target stands for, and the value that is given to it: the rules' steps taken together, as the code makes them.
 -- Assumes nothing.
-use Rattle.std.specs.Prelude.{◌≡◌, List, ℕ, ◌-◌, ◌≤◌, length, drop}
+use Rattle.std.specs.Prelude.{◌≡◌, List, ℕ, ◌≤◌, length, Result, Ok, Err, Option as Maybe, Some, None, ok_or}
 use Rattle.std.proofs.Math.Path.{refl, ap}
-use Rattle.std.proofs.Common.{sym, ◌∙◌, subst, arith, length-drop, length-take-le}
+use Rattle.std.proofs.Common.{sym, ◌∙◌, subst, arith}
 use Rattle.std.proofs.Math.Option.{Option, none, some}
 use Rattle.bytes_bundle.specs.Held.{Is, Holds, held}
 use Rattle.catalogue_lookup.specs.declared.Column.{Column}
@@ -27,40 +27,40 @@ use Rattle.rules.specs.Names.{canonical, simple_name}
 use Rattle.rules.specs.Statements.{ObjectName, plain, qualified, Target, target, tuple, Expr}
 use Rattle.rules.specs.Tables.{TableSchema}
 use Rattle.rules.proofs.Theorems.Answered.{never_given}
-use Rattle.bind_update.specs.declared.Targeted.{Targeted}
-use Rattle.bind_update.specs.declared.Targeted.TheVariants as targeted
 
 -- ---- the column of a target
 
 abbrev pub target_column : TableSchema → Target → Answer BoundColumnRef
 target_column t g = target_name g >>= (λ name. found (column_by_name t name) SchemaMismatch)
 
--- a column that was found in the table s; its name is short
-pub record ShortColumn (s : List ℕ) (r : Column) : Type 0 where
+-- a column that was found; its name is short
+pub record ShortColumn (r : Column) : Type 0 where
   pub value : BoundColumnRef
-  pub is : ColumnBound s r value
-  pub short : length value.name ≤ 128
-
-pub name_long : {s : List ℕ} {r : Column} {b : BoundColumnRef} → ColumnBound s r b → length b.name ≡ r.«end» - r.start
-name_long {s} {r} h =
-    sym (ap length h.name.is) ∙ length-take-le (r.«end» - r.start) (drop r.start s) (omega (arith, h.name.forth, h.name.within, length-drop r.start s))
+  pub is : ColumnBound r value
+  pub short : length r.name.now ≤ 128
 
 -- which an answer gave
-pub record ColumnGiven (s : List ℕ) (a : Answer BoundColumnRef) (r : Column) : Type 0 where
-  pub column : ShortColumn s r
+pub record ColumnGiven (a : Answer BoundColumnRef) (r : Column) : Type 0 where
+  pub column : ShortColumn r
   pub gives : a ≡ given column.value
 
-abbrev pub TargetedAs : List ℕ → Answer BoundColumnRef → Targeted → Type 0
-TargetedAs s a (targeted.Is r) = ColumnGiven s a r
-TargetedAs s a (targeted.Refused k) = a ≡ refused (classed k)
+abbrev pub TargetedAs : Answer BoundColumnRef → Result Column Class → Type 0
+TargetedAs a (Ok r) = ColumnGiven a r
+TargetedAs a (Err k) = a ≡ refused (classed k)
+
+-- what is answered from a lookup
+pub looked_up : (a : Answer BoundColumnRef) (o : Maybe Column) {k : Class} → ((r : Column) → o ≡ Some r → ColumnGiven a r) → (o ≡ None → a ≡ refused (classed k))
+    → TargetedAs a (ok_or o k)
+looked_up a (Some r) f g = f r refl
+looked_up a None f g = g refl
 
 -- what a callee that looks for the column has said, by the case that it answered
-module _ (s : List ℕ) (a : Answer BoundColumnRef) {r : Targeted} (h : TargetedAs s a r) where
-  pub targeted_is : {c : Column} → r ≡ targeted.Is c → ColumnGiven s a c
-  targeted_is q = subst (TargetedAs s a) q h
+module _ (a : Answer BoundColumnRef) {r : Result Column Class} (h : TargetedAs a r) where
+  pub targeted_is : {c : Column} → r ≡ Ok c → ColumnGiven a c
+  targeted_is q = subst (TargetedAs a) q h
 
-  pub targeted_off : {k : Class} → r ≡ targeted.Refused k → a ≡ refused (classed k)
-  targeted_off q = subst (TargetedAs s a) q h
+  pub targeted_off : {k : Class} → r ≡ Err k → a ≡ refused (classed k)
+  targeted_off q = subst (TargetedAs a) q h
 
 -- code 0: a tuple
 pub tuple_is : (g : Target) → target_no g ≡ 0 → g ≡ tuple

@@ -1,6 +1,6 @@
 -- The whole UPDATE: the rules' steps one by one, as the code makes them.
 -- Assumes nothing.
-use Rattle.std.specs.Prelude.{◌≡◌, refl, true, false, List, [], ◌∷◌, ℕ, ◌+◌, ◌-◌, length, take, drop}
+use Rattle.std.specs.Prelude.{◌≡◌, refl, true, false, List, [], ◌∷◌, ℕ, ◌+◌, length}
 use Rattle.std.proofs.Common.{◌∙◌, subst, arith}
 use Rattle.std.proofs.Math.Option.{none, some}
 use Rattle.bytes_format.proofs.Formats.{list_of}
@@ -59,11 +59,10 @@ pub record Sound (t : List ℕ) : Type 0 where
   pub sound : (v : TableSchema) → Holds table t v → sound_table v ≡ true
 
 -- as one that was found is
-pub given_sound : {c : List ℕ} {cat : Catalogue} (w : TableWithJoins) {b e : ℕ} → Holds catalogue c cat → TableGiven c (resolve_direct_table cat w) b e
-    → Sound (take (e - b) (drop b c))
-given_sound {c} {cat} w {b} {e} h g = record {
-  is = is_held {f = table} g.lies.holds;
-  sound = λ v k. subst (λ (t : TableSchema). sound_table t ≡ true) (held_once table g.lies.holds k) (resolved_sound cat w g.gives (catalogue_sound c h));
+pub given_sound : (c : List ℕ) {p : List ℕ} {cat : Catalogue} (w : TableWithJoins) → Holds catalogue c cat → TableGiven (resolve_direct_table cat w) p → Sound p
+given_sound c {p} {cat} w h g = record {
+  is = is_held {f = table} g.holds;
+  sound = λ v k. subst (λ (t : TableSchema). sound_table t ≡ true) (held_once table g.holds k) (resolved_sound cat w g.gives (catalogue_sound c h));
 }
 
 -- ---- from the beginning

@@ -27,10 +27,10 @@ ghost use Rattle.bind_update.specs.Updated.{update_table, Sound};
 use bind_expression::{Sized, expression_size};
 use bind_fits::{Fit, expression_fit};
 use bind_repeats::{Of, first_repeated, is_at};
-use bind_table::{Resolved, resolve_direct_table};
+use bind_table::resolve_direct_table;
 use bind_table_ref::table_size;
 use bind_where::filter_size;
-use catalogue_lookup::{Column, Named, find_column, in_key};
+use catalogue_lookup::{Column, find_column, in_key};
 use image_bound::columns::column_ref_len;
 use image_bound::fields::count_len;
 use image_parts::condition::has_condition;
@@ -41,30 +41,21 @@ use image_update::{
 };
 use rules::{Class, DataType, Refusal};
 
-// The column that a target stands for.
-#[derive(Clone, Copy)]
-pub enum Targeted {
-    Is(Column),
-    Refused(Class),
-}
-
-pub fn target_column(t: &[u8], g: &[u8]) -> Targeted
+// The column that a target stands for, or the class of the refusal.
+pub fn target_column<'a>(t: &'a [u8], g: &[u8]) -> Result<Column<'a>, Class>
     requires { Is table t.now × ShortIn assignment_target target_in g.now }
     ensures { (v : TableSchema) (x : Target) → Holds table t.now v → Holds assignment_target g.now x
-        → TargetedAs t.now (target_column v x) result }
+        → TargetedAs (target_column v x) result }
 {
     if target_code(g) == 0 {
-        return Targeted::Refused(Class::UnsupportedSql);
+        return Err(Class::UnsupportedSql);
     }
     let o = target_name(g);
     if object_name_code(o) == 0 {
-        return Targeted::Refused(Class::UnsupportedSql);
+        return Err(Class::UnsupportedSql);
     }
     let n = only_name(o);
-    match find_column(t, name_is_quoted(n), name_text(n)) {
-        Named::Is(c) => Targeted::Is(c),
-        Named::Nothing => Targeted::Refused(Class::SchemaMismatch),
-    }
+    find_column(t, name_is_quoted(n), name_text(n)).ok_or(Class::SchemaMismatch)
 }
 
 // How long the image of a value is, which must fit its column.
@@ -84,22 +75,19 @@ fn value_size(t: &[u8], e: &[u8], ty: DataType, nullable: bool) -> Result<usize,
 }
 
 // How long the image of an assignment to a column is, which must be outside the key: a record of the column and the value.
-fn assign_size(t: &[u8], e: &[u8], column: Column) -> Result<usize, Refusal>
-    requires { Is table t.now × (ShortExpression e.now × ShortColumn t.now column) }
+fn assign_size(t: &[u8], e: &[u8], column: Column<'_>) -> Result<usize, Refusal>
+    requires { Is table t.now × (ShortExpression e.now × ShortColumn column) }
     ensures few { IfOk result (λ k. k ≤ 4294967500) }
     ensures told { (v : TableSchema) (x : Expr) (c : BoundColumnRef) → Holds table t.now v → Holds expression e.now x
-        → ColumnBound t.now column c → result ≡ sized layout.assignment (assign_to v c x) }
+        → ColumnBound column.entry c → result ≡ sized layout.assignment (assign_to v c x) }
 {
-    let id = column.id;
-    if in_key(t, id) {
+    if in_key(t, column.id) {
         return Err(Refusal {
             class: Class::ConstraintViolation,
         });
     }
-    let ty = column.ty;
-    let null = column.nullable;
-    let n = value_size(t, e, ty, null)?;
-    Ok(12 + column_ref_len(column.end - column.start) + n)
+    let n = value_size(t, e, column.ty, column.nullable)?;
+    Ok(12 + column_ref_len(column.name.len()) + n)
 }
 
 // One assignment; `repeated`: its target is an earlier one's.
@@ -110,7 +98,7 @@ fn assignment_size(t: &[u8], a: &[u8], repeated: bool) -> Result<usize, Refusal>
         → result ≡ sized layout.assignment (judge_assignment repeated v x) }
 {
     match target_column(t, target_of(a)) {
-        Targeted::Is(c) => {
+        Ok(c) => {
             if repeated {
                 return Err(Refusal {
                     class: Class::ConstraintViolation,
@@ -118,7 +106,7 @@ fn assignment_size(t: &[u8], a: &[u8], repeated: bool) -> Result<usize, Refusal>
             }
             assign_size(t, value_of(a), c)
         }
-        Targeted::Refused(class) => Err(Refusal { class }),
+        Err(class) => Err(Refusal { class }),
     }
 }
 
@@ -182,15 +170,15 @@ pub fn analyze_update(c: &[u8], u: &[u8]) -> Result<usize, Refusal>
         });
     }
     match resolve_direct_table(c, table_of(u)) {
-        Resolved::At(start, end) => {
+        Ok(t) => {
             let w = condition_of(u);
             if !has_condition(w) {
                 return Err(Refusal {
                     class: Class::UnsupportedSql,
                 });
             }
-            update_size(&c[start..end], list, w)
+            update_size(t, list, w)
         }
-        Resolved::Refused(r) => Err(r),
+        Err(r) => Err(r),
     }
 }

@@ -1,6 +1,6 @@
 -- The first entry that a later one repeats, of any kind of entry; and entries of an image by the bytes that tell them apart.
 -- Assumes nothing.
-use Rattle.std.specs.Prelude.{◌≡◌, Bool, ◌&&◌, ◌||◌, ℕ, zero, suc, ◌+◌, ◌-◌, ◌≤◌, ◌<◌, eqb, length, get_or, take, drop}
+use Rattle.std.specs.Prelude.{◌≡◌, Bool, ◌&&◌, ◌||◌, ℕ, zero, suc, ◌+◌, ◌-◌, ◌≤◌, ◌<◌, eqb, length, get_or, take, drop, Option, Some, None, is_none}
 use Rattle.std.proofs.Math.Path.{refl, ap}
 use Rattle.std.proofs.Common.{sym, ap₂, ◌∙◌, subst, add-one, arith, drop_of_length-le, drop-cons}
 use Rattle.std.proofs.Math.Option.{some, some-injective}
@@ -15,8 +15,6 @@ use Rattle.bytes_bundle.specs.Laws.{bundle_value}
 use Rattle.image_value.specs.Parts.{column_id}
 use Rattle.rules.specs.Lists.{same, any, distinct}
 use Rattle.rules.specs.Tables.{same_id}
-use Rattle.catalogue_repeats.specs.declared.Repeat.{Repeat}
-use Rattle.catalogue_repeats.specs.declared.Repeat.TheVariants.{Nowhere, At}
 use Rattle.catalogue_repeats.specs.declared.By.{By}
 use Rattle.catalogue_repeats.specs.declared.By.TheVariants as by
 use Rattle.bytes_bundle.specs.Held.{Holds, Is, is_held, held, Along}
@@ -27,33 +25,29 @@ use Rattle.image_catalogue.specs.Entries.{any_hit, any_miss}
 
 module _ {A : Type 0} (alike : A → A → Bool) where
   -- of entries that are counted from i on
-  unfoldable pub first_repeated : ℕ → List A → Repeat
-  first_repeated i [] = Nowhere
-  first_repeated i (x ∷ l) = cond (any (alike x) l) (At i) (first_repeated (i + 1) l)
+  unfoldable pub first_repeated : ℕ → List A → Option ℕ
+  first_repeated i [] = None
+  first_repeated i (x ∷ l) = cond (any (alike x) l) (Some i) (first_repeated (i + 1) l)
 
-  pub repeat_hit : (i : ℕ) (x : A) (l : List A) → any (alike x) l ≡ true → first_repeated i (x ∷ l) ≡ At i
+  pub repeat_hit : (i : ℕ) (x : A) (l : List A) → any (alike x) l ≡ true → first_repeated i (x ∷ l) ≡ Some i
   unfolding first_repeated
-  repeat_hit i x l e = ap (λ (b : Bool). cond b (At i) (first_repeated (i + 1) l)) e
+  repeat_hit i x l e = ap (λ (b : Bool). cond b (Some i) (first_repeated (i + 1) l)) e
 
   pub repeat_pass : (i : ℕ) (x : A) (l : List A) → any (alike x) l ≡ false → first_repeated i (x ∷ l) ≡ first_repeated (i + 1) l
   unfolding first_repeated
-  repeat_pass i x l e = ap (λ (b : Bool). cond b (At i) (first_repeated (i + 1) l)) e
+  repeat_pass i x l e = ap (λ (b : Bool). cond b (Some i) (first_repeated (i + 1) l)) e
 
-  pub repeat_end : (i : ℕ) (l : List A) → length l ≤ i → first_repeated i (drop i l) ≡ Nowhere
+  pub repeat_end : (i : ℕ) (l : List A) → length l ≤ i → first_repeated i (drop i l) ≡ None
   unfolding first_repeated
   repeat_end i l h = ap (first_repeated i) (drop_of_length-le l {i = i} h)
 
   -- no place is found where no two are alike
-  abbrev pub is_nowhere : Repeat → Bool
-  is_nowhere Nowhere = true
-  is_nowhere (At i) = false
-
-  pub nowhere_is : (i : ℕ) (l : List A) → is_nowhere (first_repeated i l) ≡ distinct alike l
+  pub nowhere_is : (i : ℕ) (l : List A) → is_none (first_repeated i l) ≡ distinct alike l
   unfolding first_repeated
   nowhere_is i [] = refl
   nowhere_is i (x ∷ l) = go (any (alike x) l) ∙ ap (λ (b : Bool). not (any (alike x) l) && b) (nowhere_is (i + 1) l)
     where
-      go : (b : Bool) → is_nowhere (cond b (At i) (first_repeated (i + 1) l)) ≡ (not b && is_nowhere (first_repeated (i + 1) l))
+      go : (b : Bool) → is_none (cond b (Some i) (first_repeated (i + 1) l)) ≡ (not b && is_none (first_repeated (i + 1) l))
       go true = refl
       go false = refl
 

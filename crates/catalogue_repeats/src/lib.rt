@@ -29,30 +29,22 @@ fn alike(a: &[u8], b: &[u8], by: By) -> bool
     }
 }
 
-#[derive(Clone, Copy)]
-pub enum Repeat {
-    Nowhere,
-    At(usize),
-}
-
-// The first entry that a later one repeats: both loops are left at once.
-fn first_repeat(s: &[u8], by: By) -> Repeat
+// The first entry that a later one repeats.
+fn first_repeat(s: &[u8], by: By) -> Option<usize>
     requires { IsBundle 2 s.now × AllTold by s.now }
     ensures { result ≡ first_repeated (alike_by by) 0 (parts_of 2 s.now) }
 {
     let n = bytes_bundle::parts(s, 2);
-    let mut place = Repeat::Nowhere;
     let mut at = bytes_bundle::first(s, 2);
     let mut i = 0;
-    'search: while i < n {
+    while i < n {
         let end = bytes_bundle::next(s, 2, i, at);
         let mut from = end;
         let mut j = i + 1;
         while j < n {
             let to = bytes_bundle::next(s, 2, j, from);
             if alike(&s[at..end], &s[from..to], by) {
-                place = Repeat::At(i);
-                break 'search;
+                return Some(i);
             }
             from = to;
             j += 1;
@@ -60,7 +52,7 @@ fn first_repeat(s: &[u8], by: By) -> Repeat
         at = end;
         i += 1;
     }
-    place
+    None
 }
 
 // Whether no two entries are alike.
@@ -68,8 +60,5 @@ pub fn are_distinct(s: &[u8], by: By) -> bool
     requires { IsBundle 2 s.now × AllTold by s.now }
     ensures { result ≡ distinct (alike_by by) (parts_of 2 s.now) }
 {
-    match first_repeat(s, by) {
-        Repeat::Nowhere => true,
-        Repeat::At(place) => false,
-    }
+    first_repeat(s, by).is_none()
 }

@@ -21,7 +21,7 @@ use Rattle.bytes_bundle.specs.Held.{Holds, held_once}
 use Rattle.image_expression.specs.Names.{Within}
 use Rattle.bind_table.specs.Room.{Bindable}
 use Rattle.bind_table.specs.Tables.{canonical_length}
-use Rattle.bind_repeats.specs.declared.Repeat.TheVariants as repeat
+use Rattle.std.specs.Prelude.{None}
 use Rattle.rules.specs.declared.ColumnId.{ColumnId}
 use Rattle.rules.specs.declared.Class.{Class}
 use Rattle.rules.specs.Lists.{Text}
@@ -115,7 +115,7 @@ key_given cat v {key} {b} e k =
 
 module _ {c s o : List ℕ} (b : Bindable create bound_statement analyze_create_table c s o) where
   -- no column repeats a name
-  pub place_in : PlaceIn s repeat.Nowhere
+  pub place_in : PlaceIn s None
   place_in = record { is = λ v h. sym (read_distinct v (create_given b.tables v (ap (analyze_create_table b.tables) (held_once create {s = s} h b.reads) ∙ b.gives)).reads) }
 
   module _ {r : Result Key Class} {key : Key} (f : (v : CreateTable) → Holds create s v → ReadsKey v r) (e : r ≡ Ok key) where

@@ -4,7 +4,7 @@ use Rattle.std.specs.Prelude.{◌≡◌, refl, List, [], map}
 use Rattle.std.proofs.Common.{sym, ap, ◌∙◌}
 use Rattle.std.proofs.Math.Option.{Option, none}
 use Rattle.bind_repeats.specs.declared.Of.TheVariants as of
-use Rattle.bind_repeats.specs.declared.Repeat.TheVariants as repeat
+use Rattle.std.specs.Prelude.{None}
 use Rattle.bind_repeats.specs.Entries.{entry}
 use Rattle.bind_repeats.specs.Repeats.{first_repeated}
 use Rattle.bind_table.specs.Tables.{new_name}
@@ -79,7 +79,7 @@ create_given cat v {b} e =
 
 -- the names of its columns are distinct
 pub read_distinct : (v : CreateTable) {cs : List ColumnSchema} {names : Option (List Text)} → read_key v ≡ given (read_of cs names)
-    → first_repeated (map (entry of.Columns) v.columns) ≡ repeat.Nowhere
+    → first_repeated (map (entry of.Columns) v.columns) ≡ None
 read_distinct v {cs} {names} e =
     let a = bind_given (define_columns (definition [] none) v.columns) (λ d. constraints d.key v.constraints >>= (λ names. given (read_of d.columns names))) (read_of cs names) e in
     columns_distinct v.columns a.1

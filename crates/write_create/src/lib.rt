@@ -27,7 +27,6 @@ ghost use Rattle.image_catalogue.specs.Layout.{catalogue};
 ghost use Rattle.write_create.specs.Parts.{column_name, id_at, Marked, KeyMarks, made_columns, table_of, Roomy, RoomyList, PlainName, Writable};
 
 use bind_create::{Key, column_called, find_key, take_options};
-use bind_repeats::Repeat;
 use image_bound::bundles::{put_head3, put_ids};
 use image_bound::columns::put_column_schema;
 use image_bound::fields::{put_byte, put_count};
@@ -276,7 +275,7 @@ pub fn write_create_table(c: &[u8], s: &[u8], out: &mut [u8]) -> usize
         → analyze_create_table cat v ≡ given b → Wrote out.old 0 (bound_statement.write b) result out.new }
 {
     // no column of a bound statement repeats a name
-    match find_key(s, Repeat::Nowhere) {
+    match find_key(s, None) {
         Ok(key) => {
             put_byte(out, 0, 0);
             put_table(s, key, out)

@@ -29,8 +29,7 @@ use Rattle.rules.proofs.Theorems.Answered.{never_fine, never_some}
 use Rattle.text_names.specs.Compared.{named}
 use Rattle.text_numbers.specs.Literal as literal
 use Rattle.catalogue_lookup.specs.declared.Column.{Column}
-use Rattle.catalogue_lookup.specs.declared.Named.{Named}
-use Rattle.catalogue_lookup.specs.declared.Named.TheVariants as answer
+use Rattle.std.specs.Prelude.{Option as Maybe, Some, None}
 use Rattle.image_catalogue.specs.Layout.{table}
 use Rattle.catalogue_lookup.specs.Finds.{ColumnBound, ColumnIs, FindsColumn}
 use Rattle.image_catalogue.specs.Entries.{find_hit, find_miss}
@@ -38,7 +37,7 @@ use Rattle.image_expression.specs.Expression.{name_of}
 use Rattle.image_expression.specs.Place.{leaf_of}
 use Rattle.bytes_bundle.specs.Held.{Holds}
 use Rattle.image_bound.specs.Columns.{bound_column_ref}
-use Rattle.image_bound.specs.Made.{column_ref}
+use Rattle.write_expression.specs.Found.{ref_of, ref_is, column_owner}
 use Rattle.image_bound.specs.Written.{spelt}
 use Rattle.image_bound.specs.Spelt.{column_ref_length, int_length}
 use Rattle.write_expression.specs.declared.Leaf.{Leaf}
@@ -83,23 +82,6 @@ module _ (negative : Bool) (s : Text) where
 
 -- ---- columns
 
--- a column that is found is one of its table
-found_table : (v : TableSchema) (p : BoundColumnRef → Bool) (n : ℕ) (cs : List ColumnSchema) (b : BoundColumnRef) → find p (bound_columns_from v n cs) ≡ some b → b.table_id ≡ v.id
-unfolding bound_columns_from bound_column
-found_table v p n [] b h = absurd (never_some h)
-found_table v p n (c ∷ cs) b h = go (p (bound_column v n c)) refl (found_table v p (suc n) cs b)
-  where
-    l : List BoundColumnRef
-    l = bound_columns_from v (suc n) cs
-
-    go : (t : Bool) → p (bound_column v n c) ≡ t → (find p l ≡ some b → b.table_id ≡ v.id) → b.table_id ≡ v.id
-    go true e rest = ap (λ (x : BoundColumnRef). x.table_id) (sym (some-injective (bound_column v n c) b (sym (find_hit p (bound_column v n c) l e) ∙ h)))
-    go false e rest = rest (sym (find_miss p (bound_column v n c) l e) ∙ h)
-
-same_ref : {t : List ℕ} {c : Column} {b : BoundColumnRef} {id : TableId} → ColumnBound t c b → id ≡ b.table_id
-    → column_ref id c.id c.ordinal c.ty c.nullable (take (c.«end» - c.start) (drop c.start t)) ≡ b
-same_ref d i = rw (i, d.id, d.ordinal, d.ty, d.nullable, d.name.is)
-
 -- the column that a name's rule gives, as it was found
 record Given (t : List ℕ) (c : Column) (l : Marked BoundLeaf) : Type 0 where
   pub ref : BoundColumnRef
@@ -107,49 +89,45 @@ record Given (t : List ℕ) (c : Column) (l : Marked BoundLeaf) : Type 0 where
   pub schema : TableSchema
   pub holds : Holds table t schema
   pub owner : ref.table_id ≡ schema.id
-  pub bound : ColumnBound t c ref
+  pub bound : ColumnBound c ref
 
-module _ (t : List ℕ) (quoted : Bool) (name : Text) (r : Named) (found : FindsColumn t (canonical (named quoted name)) r) where
-  module _ (c : Column) (e : r ≡ answer.Is c) where
+module _ (t : List ℕ) (quoted : Bool) (name : Text) (r : Maybe Column) (found : FindsColumn t (canonical (named quoted name)) r) where
+  module _ (c : Column) (e : r ≡ Some c) where
     column : (l : Marked BoundLeaf) → Columned t quoted name l → Given t c l
-    unfolding column_by_name bound_columns
     column l k =
         let n = canonical (named quoted name) in
-        let w = subst (ColumnIs t (column_by_name k.schema n)) e (found k.schema k.holds) in
+        let w = subst (ColumnIs (column_by_name k.schema n)) e (found k.schema k.holds) in
         record {
           ref = w.0;
           is = fine_same (sym (ap column_leaf w.1) ∙ k.rule);
           schema = k.schema;
           holds = k.holds;
-          owner = found_table k.schema (ref_named n) 0 k.schema.columns w.0 w.1;
+          owner = column_owner k.schema n w.1;
           bound = w.2;
         }
 
-    pub column_lies : {o : List ℕ} {at : ℕ} → LeafRoom (Columned t quoted name) o at → (c.start ≤ c.«end») × (c.«end» ≤ length t)
-    column_lies p = let g = column p.label p.rule in (g.bound.name.forth, g.bound.name.within)
-
-    pub column_room : {o : List ℕ} {at : ℕ} → LeafRoom (Columned t quoted name) o at → at + (26 + length (take (c.«end» - c.start) (drop c.start t))) ≤ length o
+    pub column_room : {o : List ℕ} {at : ℕ} → LeafRoom (Columned t quoted name) o at → at + (26 + length c.name.now) ≤ length o
     column_room p =
         let g = column p.label p.rule in
-        rw (g.bound.name.is, ← column_ref_length g.ref) (rw (← g.is) at p.room)
+        rw (g.bound.name, ← column_ref_length g.ref) (rw (← g.is) at p.room)
 
     pub column_puts : {o o' : List ℕ} {at end : ℕ} (id : TableId) (m : Mark) → ((v : TableSchema) → Holds table t v → id ≡ v.id)
         → ((b : BoundColumnRef) → b.ty ≡ c.ty → b.nullable ≡ c.nullable → m ≡ column_mark b)
-        → Wrote o at (bound_column_ref.write (column_ref id c.id c.ordinal c.ty c.nullable (take (c.«end» - c.start) (drop c.start t)))) end o'
+        → Wrote o at (bound_column_ref.write (ref_of c id)) end o'
         → Puts (Columned t quoted name) o at (record { kind = 0; ty = m.ty; «end» = end; nullable = m.nullable }) o'
     column_puts id m own marked w l k =
         let g = column l k in
-        let q = same_ref g.bound (own g.schema g.holds ∙ sym g.owner) in
+        let q = ref_is g.bound (own g.schema g.holds ∙ sym g.owner) in
         rw (← g.is) (record {
           kind = refl;
           mark = marked g.ref (sym g.bound.ty) (sym g.bound.nullable);
           wrote = spelt (ap bound_column_ref.write q) w;
         })
 
-  pub column_never : {o : List ℕ} {at : ℕ} → r ≡ answer.Nothing → LeafRoom (Columned t quoted name) o at → ⊥
+  pub column_never : {o : List ℕ} {at : ℕ} → r ≡ None → LeafRoom (Columned t quoted name) o at → ⊥
   column_never e p =
       let k = p.rule in
-      let w = subst (ColumnIs t (column_by_name k.schema (canonical (named quoted name)))) e (found k.schema k.holds) in
+      let w = subst (ColumnIs (column_by_name k.schema (canonical (named quoted name)))) e (found k.schema k.holds) in
       never_fine (sym (ap column_leaf w) ∙ k.rule)
 
 -- ---- a leaf by its kind: a rule that follows from the leaf's

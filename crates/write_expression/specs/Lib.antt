@@ -1,3 +1,4 @@
+pub mod Found
 pub mod Signs
 pub mod Binds
 pub mod Leaves

@@ -10,7 +10,7 @@ ghost use Rattle.write_expression.specs.Leaves.{Columned, literal_at, LeafRoom, 
 use crate::Leaf;
 use crate::columns::put_found;
 use bind_fits::column_mark;
-use catalogue_lookup::{Named, find_column};
+use catalogue_lookup::find_column;
 use image_bound::values::{put_bool, put_int, put_null, put_text};
 use image_catalogue::table_id;
 use image_expression::text;
@@ -47,22 +47,18 @@ fn put_column(t: &[u8], quoted: bool, name: &[u8], out: &mut [u8], at: usize) ->
     ensures { Puts (Columned t.now quoted name.now) out.old at result out.new }
 {
     match find_column(t, quoted, name) {
-        Named::Is(c) => {
-            let start = c.start;
-            let stop = c.end;
-            let end = put_found(out, at, table_id(t), c, &t[start..stop]);
-            let column_type = c.ty;
-            let m = column_mark(column_type, c.nullable);
-            let ty = m.ty;
+        Some(c) => {
+            let end = put_found(out, at, table_id(t), c);
+            let m = column_mark(c.ty, c.nullable);
             Leaf {
                 kind: 0,
-                ty,
+                ty: m.ty,
                 end,
                 nullable: m.nullable,
             }
         }
         // never: the rule is kept
-        Named::Nothing => literal(ExpressionType::Null, true, at),
+        None => literal(ExpressionType::Null, true, at),
     }
 }
 

@@ -15,7 +15,6 @@ ghost use Rattle.write_insert_rows.specs.Listing.{Puts};
 ghost use Rattle.write_insert_columns.specs.Refs.{target, TargetGives, TargetsGive};
 
 use bind_insert_columns::find_target;
-use catalogue_lookup::Named;
 use image_catalogue::table_id;
 use write_expression::columns::put_found;
 use write_insert_rows::put_length;
@@ -26,13 +25,9 @@ fn put_target(out: &mut [u8], at: usize, t: &[u8], n: &[u8]) -> usize
     ensures { (v : TableSchema) → Holds table t.now v → Puts name n.now (target v) bound_column_ref out.old at result out.new }
 {
     match find_target(t, n) {
-        Named::Is(c) => {
-            let start = c.start;
-            let stop = c.end;
-            put_found(out, at, table_id(t), c, &t[start..stop])
-        }
+        Some(c) => put_found(out, at, table_id(t), c),
         // never: the name is a column's
-        Named::Nothing => at,
+        None => at,
     }
 }
 

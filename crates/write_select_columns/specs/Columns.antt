@@ -1,6 +1,6 @@
 -- Columns of a table, written: one by its image in the table, one by its name, all of them.
 -- Assumes nothing.
-use Rattle.std.specs.Prelude.{◌≡◌, refl, Bool, true, false, List, [], ◌∷◌, ◌++◌, ℕ, suc, ◌+◌, ◌-◌, ◌≤◌, length, take, drop}
+use Rattle.std.specs.Prelude.{◌≡◌, refl, Bool, true, false, List, [], ◌∷◌, ◌++◌, ℕ, suc, ◌+◌, ◌-◌, ◌≤◌, length, take, drop, Option as Maybe, Some, None}
 use Rattle.std.proofs.Common.{sym, ap, ap₂, ◌∙◌, subst, add-one, arith, length-append, drop_of_length-le}
 use Rattle.std.proofs.Math.Option.{some, some-injective, none-ne-some}
 use Rattle.bytes_format.proofs.Formats.{list_of}
@@ -12,8 +12,6 @@ use Rattle.image_bound.specs.Made.{column_ref}
 use Rattle.image_bound.specs.Spelt.{column_ref_length}
 use Rattle.image_bound.specs.Written.{spelt}
 use Rattle.catalogue_lookup.specs.declared.Column.{Column}
-use Rattle.catalogue_lookup.specs.declared.Named.{Named}
-use Rattle.catalogue_lookup.specs.declared.Named.TheVariants as answer
 use Rattle.catalogue_lookup.specs.Finds.{ColumnBound, ordinal_of}
 use Rattle.image_catalogue.specs.Entries.{find_hit, find_miss}
 use Rattle.image_catalogue.specs.Layout.{table}
@@ -30,6 +28,7 @@ use Rattle.rules.specs.Tables.{ColumnSchema, TableSchema}
 use Rattle.bind_select.specs.Columns.{Calls, called_found, called_unknown, called_name}
 use Rattle.image_parts.specs.Layout.{name}
 use Rattle.image_value.specs.Parts.{column_schema}
+use Rattle.write_expression.specs.Found.{ref_of, ref_is, column_owner}
 use Rattle.write_select_columns.specs.Laid.{Room, Laid, Partly, partly_none, partly_room, partly_more, partly_all}
 
 -- ---- what the writers ask for
@@ -70,58 +69,32 @@ pub column_long : (v : TableSchema) (i : ℕ) (x : ColumnSchema) → length (bou
 unfolding bound_column
 column_long v i x = column_ref_length (bound_column v i x)
 
--- ---- a column that is found is one of its table
-
-found_table : (v : TableSchema) (p : BoundColumnRef → Bool) (n : ℕ) (cs : List ColumnSchema) {b : BoundColumnRef} → find p (bound_columns_from v n cs) ≡ some b → b.table_id ≡ v.id
-unfolding bound_columns_from bound_column
-found_table v p n [] h = let z : ◌≡◌ {A = ℕ} 0 1 = cc in absurd (omega arith)
-found_table v p n (c ∷ cs) {b} h = go (p (bound_column v n c)) refl (λ k. found_table v p (suc n) cs k)
-  where
-    l : List BoundColumnRef
-    l = bound_columns_from v (suc n) cs
-
-    go : (t : Bool) → p (bound_column v n c) ≡ t → (find p l ≡ some b → b.table_id ≡ v.id) → b.table_id ≡ v.id
-    go true e rest = ap (λ (x : BoundColumnRef). x.table_id) (sym (some-injective (bound_column v n c) b (sym (find_hit p (bound_column v n c) l e) ∙ h)))
-    go false e rest = rest (sym (find_miss p (bound_column v n c) l e) ∙ h)
-
-pub column_owner : (v : TableSchema) (n : Text) {b : BoundColumnRef} → column_by_name v n ≡ some b → b.table_id ≡ v.id
-unfolding column_by_name bound_columns
-column_owner v n h = found_table v (ref_named n) 0 v.columns h
-
--- the reference that is made of what was found
-pub found_ref_lem : {t : List ℕ} {c : Column} {b : BoundColumnRef} {id : TableId} → ColumnBound t c b → id ≡ b.table_id
-    → column_ref id c.id c.ordinal c.ty c.nullable (take (c.«end» - c.start) (drop c.start t)) ≡ b
-found_ref_lem d i = rw (i, d.id, d.ordinal, d.ty, d.nullable, d.name.is)
-
 -- ---- a column by its name
 
 module _ (t n : List ℕ) {to : ℕ} {o : List ℕ} (w : NameRoom t n to o) where
   pub name_is : Is table t × (Is name n × ShortText n)
   name_is = (is_held {f = table} w.holds, (is_held {f = name} w.reads, w.short))
 
-  module _ {r : Named} (k : Calls t n r) where
-    module _ {c : Column} (q : r ≡ answer.Is c) where
-      pub name_lies : (c.start ≤ c.«end») × (c.«end» ≤ length t)
-      name_lies = let l = called_name t n k name_is q in (l.0, l.1)
-
-      pub name_room : to + (26 + length (take (c.«end» - c.start) (drop c.start t))) ≤ length o
+  module _ {r : Maybe Column} (k : Calls t n r) where
+    module _ {c : Column} (q : r ≡ Some c) where
+      pub name_room : to + (26 + length c.name.now) ≤ length o
       name_room =
           let f = called_found t n k q w.schema w.value w.holds w.reads in
           let e : f.value ≡ w.column = some-injective f.value w.column (sym f.gives ∙ w.gives) in
-          omega (arith, w.room, column_ref_length w.column, ap (λ (b : BoundColumnRef). length b.name) e, ap length f.bound.name.is)
+          omega (arith, w.room, column_ref_length w.column, ap (λ (b : BoundColumnRef). length b.name) e, ap length f.bound.name)
 
-    pub name_never : r ≡ answer.Nothing → ⊥
+    pub name_never : r ≡ None → ⊥
     name_never q =
         none-ne-some w.column (sym (called_unknown t n k q w.schema w.value w.holds w.reads) ∙ w.gives)
 
-pub name_wrote : (t n : List ℕ) (v : TableSchema) (x : Name) {r : Named} {c : Column} {b : BoundColumnRef} {id : TableId} {o o' : List ℕ} {to q : ℕ}
-    → Calls t n r → r ≡ answer.Is c → Holds table t v → Holds name n x → column_by_name v (canonical x) ≡ some b → id ≡ v.id
-    → Wrote o to (bound_column_ref.write (column_ref id c.id c.ordinal c.ty c.nullable (take (c.«end» - c.start) (drop c.start t)))) q o'
+pub name_wrote : (t n : List ℕ) (v : TableSchema) (x : Name) {r : Maybe Column} {c : Column} {b : BoundColumnRef} {id : TableId} {o o' : List ℕ} {to q : ℕ}
+    → Calls t n r → r ≡ Some c → Holds table t v → Holds name n x → column_by_name v (canonical x) ≡ some b → id ≡ v.id
+    → Wrote o to (bound_column_ref.write (ref_of c id)) q o'
     → Wrote o to (bound_column_ref.write b) q o'
 name_wrote t n v x {b = b} k e hv hx h own p =
     let f = called_found t n k e v x hv hx in
     let z : f.value ≡ b = some-injective f.value b (sym f.gives ∙ h) in
-    spelt (ap bound_column_ref.write (found_ref_lem f.bound (own ∙ sym (column_owner v (canonical x) f.gives)) ∙ z)) p
+    spelt (ap bound_column_ref.write (ref_is f.bound (own ∙ sym (column_owner v (canonical x) f.gives)) ∙ z)) p
 
 -- room for one column
 pub one_room : (b : BoundColumnRef) {row to : ℕ} {o : List ℕ} → Room bound_column_ref (b ∷ []) row to o → (row + 4 ≤ to) × (to + length (bound_column_ref.write b) ≤ length o)

@@ -23,7 +23,6 @@ ghost use Rattle.write_select_columns.specs.Columns.{ColumnRoom, NameRoom, StarR
 ghost use Rattle.write_select_columns.specs.Items.{ItemGives, ItemRoom, ItemsFew, ItemsRoom, ProjectionRoom};
 
 use bind_select::column_called;
-use catalogue_lookup::Named;
 use image_bound::columns::put_column_ref;
 use image_catalogue::{column_id, column_name, column_nullable, column_type, columns, table_id};
 use image_select::{column_of, item_code};
@@ -89,13 +88,9 @@ fn put_called(out: &mut [u8], to: usize, t: &[u8], n: &[u8]) -> usize
         → Wrote out.old to (bound_column_ref.write b) result out.new }
 {
     match column_called(t, n) {
-        Named::Is(c) => {
-            let start = c.start;
-            let end = c.end;
-            put_found(out, to, table_id(t), c, &t[start..end])
-        }
+        Some(c) => put_found(out, to, table_id(t), c),
         // never: the name is a column's
-        Named::Nothing => to,
+        None => to,
     }
 }
 

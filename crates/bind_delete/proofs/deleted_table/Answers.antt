@@ -60,21 +60,21 @@ has_tables-requires c = c.requires.1.is
 
 pub returns-then-has_tables : goal.returns-then-has_tables
 returns-then-has_tables c = λ cat v hc h.
-    off_resolved _ (deleted_table cat v) c.unresolved.ensures (beside_tables cat v (sym (c.has_tables.ensures v h) ∙ c.if-has_tables.true))
+    off_resolved (deleted_table cat v) c.into.ensures (beside_tables cat v (sym (c.has_tables.ensures v h) ∙ c.if-has_tables.true))
 
 pub has_using-requires : goal.has_using-requires
 has_using-requires c = c.requires.1.is
 
 pub returns-then-has_using : goal.returns-then-has_using
 returns-then-has_using c = λ cat v hc h.
-    off_resolved _ (deleted_table cat v) c.unresolved-then-has_using.ensures (beside_using cat v (no_tables (goal.at.returns-then-has_using c).Else-has_tables v h) (sym (c.has_using.ensures v h) ∙ c.if-has_using.true))
+    off_resolved (deleted_table cat v) c.into-then-has_using.ensures (beside_using cat v (no_tables (goal.at.returns-then-has_using c).Else-has_tables v h) (sym (c.has_using.ensures v h) ∙ c.if-has_using.true))
 
 pub has_returning-requires : goal.has_returning-requires
 has_returning-requires c = c.requires.1.is
 
 pub returns-then-has_returning : goal.returns-then-has_returning
 returns-then-has_returning c = λ cat v hc h.
-    off_resolved _ (deleted_table cat v) c.unresolved-then-has_returning.ensures
+    off_resolved (deleted_table cat v) c.into-then-has_returning.ensures
     (beside_returning cat v (no_tables (goal.at.returns-then-has_returning c).Else-has_tables v h) (no-using (goal.at.returns-then-has_returning c).Else-has_using v h) (sym (c.has_returning.ensures v h) ∙ c.if-has_returning.true))
 
 pub has_order_by-requires : goal.has_order_by-requires
@@ -82,7 +82,7 @@ has_order_by-requires c = c.requires.1.is
 
 pub returns-then-has_order_by : goal.returns-then-has_order_by
 returns-then-has_order_by c = λ cat v hc h.
-    off_resolved _ (deleted_table cat v) c.unresolved-then-has_order_by.ensures
+    off_resolved (deleted_table cat v) c.into-then-has_order_by.ensures
     (beside_order_by cat v (no_tables (goal.at.returns-then-has_order_by c).Else-has_tables v h) (no-using (goal.at.returns-then-has_order_by c).Else-has_using v h) (no-returning (goal.at.returns-then-has_order_by c).Else-has_returning v h) (sym (c.has_order_by.ensures v h) ∙ c.if-has_order_by.true))
 
 pub has_limit-requires : goal.has_limit-requires
@@ -90,7 +90,7 @@ has_limit-requires c = c.requires.1.is
 
 pub returns-then-has_limit : goal.returns-then-has_limit
 returns-then-has_limit c = λ cat v hc h.
-    off_resolved _ (deleted_table cat v) c.unresolved-then-has_limit.ensures
+    off_resolved (deleted_table cat v) c.into-then-has_limit.ensures
     (beside_limit cat v (no_tables (goal.at.returns-then-has_limit c).Else-has_tables v h) (no-using (goal.at.returns-then-has_limit c).Else-has_using v h) (no-returning (goal.at.returns-then-has_limit c).Else-has_returning v h) (no-order-by (goal.at.returns-then-has_limit c).Else-has_order_by v h) (sym (c.has_limit.ensures v h) ∙ c.if-has_limit.true))
 
 pub from_of-f-requires : goal.from_of-f-requires
@@ -101,12 +101,12 @@ from_code-code-requires c = from_is (goal.at.from_code-code-requires c).After-fr
 
 pub returns-then-code-eq0 : goal.returns-then-code-eq0
 returns-then-code-eq0 c = λ cat v hc h.
-    off_resolved _ (deleted_table cat v) c.unresolved-then-code-eq0.ensures
+    off_resolved (deleted_table cat v) c.into-then-code-eq0.ensures
     (unmarked (goal.at.returns-then-code-eq0 c).Else-has_limit cat v h ∙ step_off _ (no_keyword_lem v.from (sym (c.from_code-code.ensures v.from (c.from_of-f.ensures v h)) ∙ c.if-code-eq0.true)))
 
 pub returns-then-code-eq1 : goal.returns-then-code-eq1
 returns-then-code-eq1 c = λ cat v hc h.
-    off_resolved _ (deleted_table cat v) c.unresolved-then-code-eq1.ensures
+    off_resolved (deleted_table cat v) c.into-then-code-eq1.ensures
     (unmarked (goal.at.returns-then-code-eq1 c).Else-has_limit cat v h ∙ step_off _ (not_one_lem v.from (sym (c.from_code-code.ensures v.from (c.from_of-f.ensures v h)) ∙ c.if-code-eq1.true)))
 
 pub table_of-requires : goal.table_of-requires
@@ -122,6 +122,6 @@ resolve_direct_table-requires c =
 pub returns : goal.returns
 returns c = λ cat v hc h.
     let s = one_table (goal.at.returns c).Else-code-eq1 in
-    subst (λ (a : Answer TableSchema). ResolvedAs c.args.c.now a c.resolve_direct_table.result)
+    subst (λ (a : Answer TableSchema). ResolvedAs a c.resolve_direct_table.result)
     (sym (unmarked (goal.at.returns c).Else-has_limit cat v h ∙ step_on _ (ap rules.delete_from (held_once delete_from (c.from_of-f.ensures v h) s.whole))))
     (c.resolve_direct_table.ensures cat s.value hc (c.table_of.ensures s.value s.whole))

@@ -4,7 +4,7 @@ use native.Mathlib.Omega.{arith}
 use lib.ListN.{length}
 use Rattle.bytes_bundle.specs.Held.{along, along_on, list_bundle}
 use Rattle.image_parts.specs.Layout.{name}
-use Rattle.bind_insert_columns.specs.Columns.{name_part, text_within, bound_off, binding, bind_repeated, bind_unknown, bind_more, bind_end}
+use Rattle.bind_insert_columns.specs.Columns.{name_part, column_within, bound_off, binding, bind_repeated, bind_unknown, bind_more, bind_end}
 use borrow.Author.Rules.{rules}
 use Rattle.bind_insert_columns.proofs.bind_columns.Goals as goal
 
@@ -35,22 +35,19 @@ find_target-requires c = (c.requires.0, name_part c.requires.1.0.names c.next-en
 pub bounds-codes-i : goal.bounds-codes-i
 bounds-codes-i c = omega (arith, c.loop-i-test.true, c.loop-i.invariant.0.count, c.requires.1.0.few)
 
-pub name_text-requires : goal.name_text-requires
-name_text-requires c = (name_part c.requires.1.0.names c.next-end.ensures).0
-
 pub column_ref_len-requires : goal.column_ref_len-requires
-column_ref_len-requires c = omega (arith, text_within (name_part c.requires.1.0.names c.next-end.ensures) c.name_text.ensures)
+column_ref_len-requires c = omega (arith, column_within c.requires.0 (name_part c.requires.1.0.names c.next-end.ensures) c.find_target.ensures c.in-Some.is)
 
 pub overflow_add-total : goal.overflow_add-total
-overflow_add-total c = omega (arith, c.column_ref_len.ensures.0, text_within (name_part c.requires.1.0.names c.next-end.ensures) c.name_text.ensures)
+overflow_add-total c = omega (arith, c.column_ref_len.ensures.0, column_within c.requires.0 (name_part c.requires.1.0.names c.next-end.ensures) c.find_target.ensures c.in-Some.is)
 
-pub overflow_add-total-in-Is : goal.overflow_add-total-in-Is
-overflow_add-total-in-Is c = omega (arith, c.column_ref_len.ensures.0, text_within (name_part c.requires.1.0.names c.next-end.ensures) c.name_text.ensures, c.loop-i.invariant.2, c.loop-i-test.true, c.loop-i.invariant.0.count, c.requires.1.0.few)
+pub overflow_add-total-in-loop-i : goal.overflow_add-total-in-loop-i
+overflow_add-total-in-loop-i c = omega (arith, c.column_ref_len.ensures.0, column_within c.requires.0 (name_part c.requires.1.0.names c.next-end.ensures) c.find_target.ensures c.in-Some.is, c.loop-i.invariant.2, c.loop-i-test.true, c.loop-i.invariant.0.count, c.requires.1.0.few)
 
-pub returns-in-Nothing : goal.returns-in-Nothing
-returns-in-Nothing c = (
+pub returns-in_default : goal.returns-in_default
+returns-in_default c = (
   tt,
-  λ v ns ht hs. bound_off refl (bind_unknown c.loop-i.invariant.3 c.next-end.ensures c.first_repeated-place.ensures (sym c.is_at.ensures ∙ c.if-is_at.false) c.find_target.ensures c.in-Nothing.is v ns ht hs),
+  λ v ns ht hs. bound_off refl (bind_unknown c.loop-i.invariant.3 c.next-end.ensures c.first_repeated-place.ensures (sym c.is_at.ensures ∙ c.if-is_at.false) c.find_target.ensures c.in_default.is v ns ht hs),
 )
 
 pub loop-i-preserved : goal.loop-i-preserved
@@ -58,9 +55,9 @@ loop-i-preserved c =
     let d = c.next-end.ensures in (
       along_on c.loop-i.invariant.0 d,
       omega (arith, c.loop-i-test.true),
-      omega (arith, c.column_ref_len.ensures.0, text_within (name_part c.requires.1.0.names c.next-end.ensures) c.name_text.ensures, c.loop-i.invariant.2),
-      bind_more c.loop-i.invariant.3 d c.first_repeated-place.ensures (sym c.is_at.ensures ∙ c.if-is_at.false) c.find_target.ensures c.in-Is.is c.code_of.ensures
-          (λ k b h e. c.column_ref_len.ensures.1 b (e ∙ sym (ap length (c.name_text.ensures k h)))) (omega (arith, c.loop-i.invariant.4, c.loop-i-test.true, c.loop-i.invariant.0.count, c.requires.1.0.few)),
+      omega (arith, c.column_ref_len.ensures.0, column_within c.requires.0 (name_part c.requires.1.0.names c.next-end.ensures) c.find_target.ensures c.in-Some.is, c.loop-i.invariant.2),
+      bind_more c.loop-i.invariant.3 d c.first_repeated-place.ensures (sym c.is_at.ensures ∙ c.if-is_at.false) c.find_target.ensures c.in-Some.is c.code_of.ensures
+          c.column_ref_len.ensures.1 (omega (arith, c.loop-i.invariant.4, c.loop-i-test.true, c.loop-i.invariant.0.count, c.requires.1.0.few)),
       search rules,
     )
 

@@ -5,7 +5,7 @@ use Rattle.bytes_bundle.specs.Held.{Is, Holds, is_held, held, held_once}
 use Rattle.image_bound.specs.Layout.{bound_statement}
 use Rattle.image_catalogue.specs.Layout.{table}
 use Rattle.image_catalogue.specs.Values.{catalogue_list, catalogue_tables}
-use Rattle.bind_table.specs.Steps.{step_on, step_off, sized_as, sized_refused, resolved_at, resolved_off}
+use Rattle.bind_table.specs.Steps.{step_on, step_off, sized_as, sized_refused, resolved_is, resolved_off}
 use Rattle.rules.specs.Statements.{Query}
 use Rattle.image_parts.specs.Layout.{select, query_body, selection}
 use Rattle.bind_select.specs.Selects.{with_clauses, not_plain_lem, plainly}
@@ -54,36 +54,24 @@ select_of-s-requires c = body_is (goal.at.select_of-s-requires c).After-body_of-
 pub selected_table-requires : goal.selected_table-requires
 selected_table-requires c = (catalogue_list c.requires.0, select_within (goal.at.selected_table-requires c).After-select_of-s)
 
-pub slice_bounds-select_size-count : goal.slice_bounds-select_size-count
-slice_bounds-select_size-count c = held c.requires.0 (λ cat hc.
-    (resolved_at _ _ (c.selected_table.ensures cat _ (catalogue_tables c.args.c.now hc) (plain-select (goal.at.slice_bounds-select_size-count c).After-select_of-s)) c.in-At.is).lies.forth)
-
-pub slice_bounds-select_size-start : goal.slice_bounds-select_size-start
-slice_bounds-select_size-start c = held c.requires.0 (λ cat hc.
-    (resolved_at _ _ (c.selected_table.ensures cat _ (catalogue_tables c.args.c.now hc) (plain-select (goal.at.slice_bounds-select_size-start c).After-select_of-s)) c.in-At.is).lies.forth)
-
-pub slice_bounds-select_size-end : goal.slice_bounds-select_size-end
-slice_bounds-select_size-end c = held c.requires.0 (λ cat hc.
-    (resolved_at _ _ (c.selected_table.ensures cat _ (catalogue_tables c.args.c.now hc) (plain-select (goal.at.slice_bounds-select_size-end c).After-select_of-s)) c.in-At.is).lies.within)
-
 pub select_size-requires : goal.select_size-requires
 select_size-requires c = held c.requires.0 (λ cat hc. (
   is_held {f = table}
-      (resolved_at _ _ (c.selected_table.ensures cat _ (catalogue_tables c.args.c.now hc) (plain-select (goal.at.select_size-requires c).After-select_of-s)) c.in-At.is).lies.holds,
+      (resolved_is _ (c.selected_table.ensures cat _ (catalogue_tables c.args.c.now hc) (plain-select (goal.at.select_size-requires c).After-select_of-s)) c.in-Ok.is).holds,
   select_within (goal.at.select_size-requires c).After-select_of-s,
 ))
 
-pub returns-in-At : goal.returns-in-At
-returns-in-At c = λ cat v hc h.
-    let w = plain_one (goal.at.returns-in-At c).Else-body_code-eq0 in
-    let t = resolved_at _ _ (c.selected_table.ensures cat w.value (catalogue_tables _ hc) (plain-select (goal.at.returns-in-At c).After-select_of-s)) c.in-At.is in
+pub returns-in-Ok : goal.returns-in-Ok
+returns-in-Ok c = λ cat v hc h.
+    let w = plain_one (goal.at.returns-in-Ok c).Else-body_code-eq0 in
+    let t = resolved_is _ (c.selected_table.ensures cat w.value (catalogue_tables _ hc) (plain-select (goal.at.returns-in-Ok c).After-select_of-s)) c.in-Ok.is in
     sized_as bound_statement
-    (plainly cat v (unclaused (goal.at.returns-in-At c).Else-has_clauses v h) (held_once query_body (c.body_of-b.ensures v h) w.whole) ∙ step_on _ t.gives)
-    (c.select_size.ensures t.value w.value t.lies.holds (plain-select (goal.at.returns-in-At c).After-select_of-s))
+    (plainly cat v (unclaused (goal.at.returns-in-Ok c).Else-has_clauses v h) (held_once query_body (c.body_of-b.ensures v h) w.whole) ∙ step_on _ t.gives)
+    (c.select_size.ensures t.value w.value t.holds (plain-select (goal.at.returns-in-Ok c).After-select_of-s))
 
-pub returns-in-Refused : goal.returns-in-Refused
-returns-in-Refused c = λ cat v hc h.
-    let w = plain_one (goal.at.returns-in-Refused c).Else-body_code-eq0 in
+pub returns-in-Err : goal.returns-in-Err
+returns-in-Err c = λ cat v hc h.
+    let w = plain_one (goal.at.returns-in-Err c).Else-body_code-eq0 in
     sized_refused bound_statement
-    (plainly cat v (unclaused (goal.at.returns-in-Refused c).Else-has_clauses v h) (held_once query_body (c.body_of-b.ensures v h) w.whole)
-    ∙ step_off _ (resolved_off _ _ (c.selected_table.ensures cat w.value (catalogue_tables _ hc) (plain-select (goal.at.returns-in-Refused c).After-select_of-s)) c.in-Refused.is))
+    (plainly cat v (unclaused (goal.at.returns-in-Err c).Else-has_clauses v h) (held_once query_body (c.body_of-b.ensures v h) w.whole)
+    ∙ step_off _ (resolved_off _ (c.selected_table.ensures cat w.value (catalogue_tables _ hc) (plain-select (goal.at.returns-in-Err c).After-select_of-s)) c.in-Err.is))

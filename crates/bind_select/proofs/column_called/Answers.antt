@@ -19,5 +19,5 @@ find_column-requires c =
 pub returns : goal.returns
 returns c = λ v x hv h.
     let a = c.args in
-    subst (λ (n : Name). ColumnIs a.t.now (column_by_name v (canonical n)) c.find_column.result)
+    subst (λ (n : Name). ColumnIs (column_by_name v (canonical n)) c.find_column.result)
     (ap₂ named (c.name_is_quoted.ensures x h) (c.name_text.ensures x h)) (c.find_column.ensures v hv)

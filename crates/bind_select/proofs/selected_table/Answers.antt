@@ -30,7 +30,7 @@ has_features-requires c = c.requires.1.is
 
 pub returns-then-has_features : goal.returns-then-has_features
 returns-then-has_features c = λ cat v hc h.
-    off_resolved _ (selected_table cat v) c.unresolved.ensures (with_features cat v (sym (c.has_features.ensures v h) ∙ c.if-has_features.true))
+    off_resolved (selected_table cat v) c.into.ensures (with_features cat v (sym (c.has_features.ensures v h) ∙ c.if-has_features.true))
 
 pub from_of-f-requires : goal.from_of-f-requires
 from_of-f-requires c = c.requires.1.is
@@ -40,7 +40,7 @@ from_code-requires c = from_is (goal.at.from_code-requires c).After-from_of-f
 
 pub returns-then-from_code-eq0 : goal.returns-then-from_code-eq0
 returns-then-from_code-eq0 c = λ cat v hc h.
-    off_resolved _ (selected_table cat v) c.unresolved-then-from_code-eq0.ensures
+    off_resolved (selected_table cat v) c.into-then-from_code-eq0.ensures
     (from_several cat v (plain (goal.at.returns-then-from_code-eq0 c).Else-has_features v h) (sym (c.from_code.ensures v.from (c.from_of-f.ensures v h)) ∙ c.if-from_code-eq0.true))
 
 pub table_of-requires : goal.table_of-requires
@@ -56,6 +56,6 @@ resolve_direct_table-requires c =
 pub returns : goal.returns
 returns c = λ cat v hc h.
     let w = one_table (goal.at.returns c).Else-from_code-eq0 in
-    subst (λ (a : Answer TableSchema). ResolvedAs c.args.c.now a c.resolve_direct_table.result)
+    subst (λ (a : Answer TableSchema). ResolvedAs a c.resolve_direct_table.result)
     (sym (from_one cat v (plain (goal.at.returns c).Else-has_features v h) (held_once select_from (c.from_of-f.ensures v h) w.whole)))
     (c.resolve_direct_table.ensures cat w.value hc (c.table_of.ensures w.value w.whole))

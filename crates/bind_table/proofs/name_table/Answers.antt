@@ -1,8 +1,10 @@
 -- `bind_table::name_table` meets its contract.
 use mathlib.Core.Path.{sym, ◌∙◌, subst}
-use Rattle.catalogue_lookup.specs.Finds.{FindsTable}
+use Rattle.bind_table.specs.Told.{ResolvedAs}
+use Rattle.catalogue_lookup.specs.Finds.{TableIs}
 use Rattle.rules.specs.Names.{canonical}
-use Rattle.bind_table.specs.Steps.{off_resolved}
+use Rattle.rules.specs.Tables.{table_by_name}
+use Rattle.bind_table.specs.Steps.{off_resolved, looked_up}
 use Rattle.bind_table.specs.Tables.{named_table, Only, only, only_is, only_short, only_value, named_several, named_is, named_none}
 use Rattle.bind_table.proofs.name_table.Goals.{After-only_name}
 use Rattle.bind_table.proofs.name_table.Goals as goal
@@ -13,25 +15,18 @@ one c = only c.requires.1.0 c.object_name_code.ensures c.if-object_name_code-eq0
 
 pub returns-then-object_name_code-eq0 : goal.returns-then-object_name_code-eq0
 returns-then-object_name_code-eq0 c = λ cat o hc h.
-    let a = c.args in
-    off_resolved a.c.now (named_table cat o) c.unresolved.ensures (named_several cat o (sym (c.object_name_code.ensures o h) ∙ c.if-object_name_code-eq0.true))
+    off_resolved (named_table cat o) c.into.ensures (named_several cat o (sym (c.object_name_code.ensures o h) ∙ c.if-object_name_code-eq0.true))
 
 pub find_named-requires : goal.find_named-requires
 find_named-requires c =
     let p = c.requires in
     (p.0, (only_is (one (goal.at.find_named-requires c).After-only_name), only_short (one (goal.at.find_named-requires c).After-only_name) p.1.1))
 
-pub returns-in-At : goal.returns-in-At
-returns-in-At c = λ cat o hc h.
-    let d = c.find_named in
-    let w = one (goal.at.returns-in-At c).After-only_name in
-    let t = subst (FindsTable c.args.c.now (canonical w.value)) c.in-At.is (d.ensures w.value w.part) cat hc in
-    (t.0, named_is cat o (only_value w o h) t.1, t.2)
-
-pub returns-in-Nothing : goal.returns-in-Nothing
-returns-in-Nothing c = λ cat o hc h.
-    let d = c.find_named in
-    let w = one (goal.at.returns-in-Nothing c).After-only_name in
-    let s = c.args.c.now in
-    off_resolved s (named_table cat o) c.unresolved-in-Nothing.ensures
-    (named_none cat o (only_value w o h) (subst (FindsTable s (canonical w.value)) c.in-Nothing.is (d.ensures w.value w.part) cat hc))
+pub returns : goal.returns
+returns c = λ cat o hc h.
+    let w = one (goal.at.returns c).After-only_name in
+    let says = c.find_named.ensures w.value w.part cat hc in
+    subst (ResolvedAs (named_table cat o)) (sym c.ok_or.ensures.value)
+    (looked_up (named_table cat o) c.find_named.result
+    (λ p q. let t = subst (TableIs (table_by_name cat (canonical w.value))) q says in (t.0, named_is cat o (only_value w o h) t.1, t.2))
+    (λ q. off_resolved (named_table cat o) c.into-2.ensures (named_none cat o (only_value w o h) (subst (TableIs (table_by_name cat (canonical w.value))) q says))))

@@ -24,16 +24,16 @@ find_named-requires c =
 pub name_text-requires : goal.name_text-requires
 name_text-requires c = only_is (one (goal.at.name_text-requires c).After-only_name-name)
 
-pub returns-in-At : goal.returns-in-At
-returns-in-At c = λ cat o hc h.
-    let w = one (goal.at.returns-in-At c).After-only_name-name in
-    let t = subst (FindsTable c.args.c.now (canonical w.value)) c.in-At.is
+pub returns-in-Some : goal.returns-in-Some
+returns-in-Some c = λ cat o hc h.
+    let w = one (goal.at.returns-in-Some c).After-only_name-name in
+    let t = subst (FindsTable c.args.c.now (canonical w.value)) c.in-Some.is
     (c.find_named.ensures w.value w.part) cat hc in
     sized_refused text (new_taken cat o (only_value w o h) t.1)
 
-pub returns-in-Nothing : goal.returns-in-Nothing
-returns-in-Nothing c = λ cat o hc h.
-    let w = one (goal.at.returns-in-Nothing c).After-only_name-name in
-    let t = subst (FindsTable c.args.c.now (canonical w.value)) c.in-Nothing.is
+pub returns-in-None : goal.returns-in-None
+returns-in-None c = λ cat o hc h.
+    let w = one (goal.at.returns-in-None c).After-only_name-name in
+    let t = subst (FindsTable c.args.c.now (canonical w.value)) c.in-None.is
     (c.find_named.ensures w.value w.part) cat hc in
     sized_given text (new_free cat o (only_value w o h) t) (ap length (c.name_text.ensures w.value w.part) ∙ sym (canonical_length w.value))

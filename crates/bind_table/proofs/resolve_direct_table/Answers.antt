@@ -31,7 +31,7 @@ direct_is c v h = held_once relation (c.relation_of-s.ensures v h) (direct_in (s
 
 pub returns-then-has_joins : goal.returns-then-has_joins
 returns-then-has_joins c = λ cat v hc h.
-    off_resolved c.args.c.now (resolve_direct_table cat v) c.unresolved.ensures
+    off_resolved (resolve_direct_table cat v) c.into.ensures
     (resolve_joins cat v (sym (c.has_joins.ensures v h) ∙ c.if-has_joins.true))
 
 pub relation_code-requires : goal.relation_code-requires
@@ -39,7 +39,7 @@ relation_code-requires c = related (goal.at.relation_code-requires c).After-rela
 
 pub returns-then-relation_code-eq0 : goal.returns-then-relation_code-eq0
 returns-then-relation_code-eq0 c = λ cat v hc h.
-    off_resolved c.args.c.now (resolve_direct_table cat v) c.unresolved-then-relation_code-eq0.ensures
+    off_resolved (resolve_direct_table cat v) c.into-then-relation_code-eq0.ensures
     (resolve_indirect cat v (unjoined (goal.at.returns-then-relation_code-eq0 c).After-relation_of-s v h) (sym (c.relation_code.ensures v.relation (c.relation_of-s.ensures v h)) ∙ c.if-relation_code-eq0.true))
 
 pub relation_is_marked-requires : goal.relation_is_marked-requires
@@ -48,7 +48,7 @@ relation_is_marked-requires c = shown (goal.at.relation_is_marked-requires c).El
 pub returns-then-relation_is_marked : goal.returns-then-relation_is_marked
 returns-then-relation_is_marked c = λ cat v hc h.
     let d = direct_in (shown (goal.at.returns-then-relation_is_marked c).Else-relation_code-eq0) in
-    off_resolved c.args.c.now (resolve_direct_table cat v) c.unresolved-then-relation_is_marked.ensures
+    off_resolved (resolve_direct_table cat v) c.into-then-relation_is_marked.ensures
     (resolve_marked cat v (unjoined (goal.at.returns-then-relation_is_marked c).After-relation_of-s v h) (direct_is (goal.at.returns-then-relation_is_marked c).Else-relation_code-eq0 v h) (sym (c.relation_is_marked.ensures d.marked d.name d.whole) ∙ c.if-relation_is_marked.true))
 
 pub relation_name-requires : goal.relation_name-requires
@@ -64,6 +64,6 @@ name_table-requires c =
 pub returns : goal.returns
 returns c = λ cat v hc h.
     let d = direct_in (shown (goal.at.returns c).Else-relation_code-eq0) in
-    subst (λ (a : Answer TableSchema). ResolvedAs c.args.c.now a c.name_table.result)
+    subst (λ (a : Answer TableSchema). ResolvedAs a c.name_table.result)
     (sym (resolve_named cat v (unjoined (goal.at.returns c).After-relation_of-s v h) (direct_is (goal.at.returns c).Else-relation_code-eq0 v h) (sym (c.relation_is_marked.ensures d.marked d.name d.whole) ∙ c.if-relation_is_marked.false)))
     (c.name_table.ensures cat d.name hc (c.relation_name.ensures d.marked d.name d.whole))

@@ -11,7 +11,7 @@ use Rattle.bytes_format.proofs.Formats.{list_of}
 use Rattle.image_parts.specs.Layout.{table_with_joins, condition, assignment, updating}
 use Rattle.bind_where.specs.There.{There, absent, present, there_is, there_reads, there_short}
 use Rattle.bind_table.specs.Short.{update_short, short_table}
-use Rattle.bind_table.specs.Steps.{sized_refused, sized_as, TableGiven, resolved_at, resolved_off}
+use Rattle.bind_table.specs.Steps.{sized_refused, sized_as, TableGiven, resolved_is, resolved_off}
 use Rattle.rules.specs.Analyze.{resolve_direct_table}
 use Rattle.rules.specs.Lists.{is_empty}
 use Rattle.rules.specs.Statements.{Update}
@@ -32,7 +32,7 @@ use Rattle.bind_update.specs.Updated.{
 use borrow.Author.Rules.{rules}
 use Rattle.bind_update.proofs.analyze_update.Goals.{After-assignments-list}
 use Rattle.bind_update.proofs.analyze_update.Goals.{After-table_of}
-use Rattle.bind_update.proofs.analyze_update.Goals.{In-At}
+use Rattle.bind_update.proofs.analyze_update.Goals.{In-Ok}
 use Rattle.bind_update.proofs.analyze_update.Goals.{Else-not-has_condition}
 use Rattle.bind_update.proofs.analyze_update.Goals as goal
 
@@ -52,16 +52,11 @@ some-assigned c v h =
     let a = c.assignments-list in
     not_empty v.assignments (λ e. c.if-parts-eq0.false (c.parts.ensures ∙ sym (list_count assignment a.result.now (a.ensures v h)) ∙ e))
 
--- the table was found, and lies in the catalogue
-found : (c : In-At) (cat : Catalogue) (v : Update) → Holds catalogue c.args.c.now cat → Holds updating c.args.u.now v
-    → TableGiven c.args.c.now (resolve_direct_table cat v.table) c.in-At.start c.in-At.end
+-- the table was found
+found : (c : In-Ok) (cat : Catalogue) (v : Update) → Holds catalogue c.args.c.now cat → Holds updating c.args.u.now v
+    → TableGiven (resolve_direct_table cat v.table) c.in-Ok.t.now
 found c cat v hc h =
-    resolved_at _ _ (c.resolve_direct_table.ensures cat v.table (catalogue_tables _ hc) (c.table_of.ensures v h)) c.in-At.is
-
-lies : (c : In-At) → (c.in-At.start ≤ c.in-At.end) × (c.in-At.end ≤ length c.args.c.now)
-lies c =
-    let p = c.requires in
-    held p.0 (λ cat hc. held p.1.0 (λ v h. let l = (found c cat v hc h).lies in (l.forth, l.within)))
+    resolved_is _ (c.resolve_direct_table.ensures cat v.table (catalogue_tables _ hc) (c.table_of.ensures v h)) c.in-Ok.is
 
 -- and there is a condition
 there : (c : Else-not-has_condition) → There c.condition_of-w.result.now
@@ -107,22 +102,13 @@ resolve_direct_table-requires c =
 pub returns-then-not-has_condition : goal.returns-then-not-has_condition
 returns-then-not-has_condition c = λ cat v hc h.
     sized_refused bound_statement
-    (update_unconditioned cat v (from (goal.at.returns-then-not-has_condition c).After-assignments-list v h) (returning (goal.at.returns-then-not-has_condition c).After-assignments-list v h) (conflict (goal.at.returns-then-not-has_condition c).After-assignments-list v h) (some-assigned (goal.at.returns-then-not-has_condition c).After-table_of v h) (found (goal.at.returns-then-not-has_condition c).In-At cat v hc h).gives
+    (update_unconditioned cat v (from (goal.at.returns-then-not-has_condition c).After-assignments-list v h) (returning (goal.at.returns-then-not-has_condition c).After-assignments-list v h) (conflict (goal.at.returns-then-not-has_condition c).After-assignments-list v h) (some-assigned (goal.at.returns-then-not-has_condition c).After-table_of v h) (found (goal.at.returns-then-not-has_condition c).In-Ok cat v hc h).gives
     (absent c.condition_of-w.result.now c.has_condition.ensures (c.if-not-has_condition.true) v.condition (c.condition_of-w.ensures v h)))
-
-pub slice_bounds-update_size-count : goal.slice_bounds-update_size-count
-slice_bounds-update_size-count c = (lies (goal.at.slice_bounds-update_size-count c).In-At).0
-
-pub slice_bounds-update_size-start : goal.slice_bounds-update_size-start
-slice_bounds-update_size-start c = (lies (goal.at.slice_bounds-update_size-start c).In-At).0
-
-pub slice_bounds-update_size-end : goal.slice_bounds-update_size-end
-slice_bounds-update_size-end c = (lies (goal.at.slice_bounds-update_size-end c).In-At).1
 
 pub update_size-requires : goal.update_size-requires
 update_size-requires c =
     let p = c.requires in (
-      held p.0 (λ cat hc. held p.1.0 (λ v h. given_sound v.table hc (found (goal.at.update_size-requires c).In-At cat v hc h))),
+      held p.0 (λ cat hc. held p.1.0 (λ v h. given_sound c.args.c.now v.table hc (found (goal.at.update_size-requires c).In-Ok cat v hc h))),
       (
         update_assignments p.1.1 p.1.0 c.assignments-list.ensures,
         there_short (there (goal.at.update_size-requires c).Else-not-has_condition) (update_condition p.1.1 p.1.0 c.condition_of-w.ensures),
@@ -132,13 +118,13 @@ update_size-requires c =
 pub returns-else-not-has_condition : goal.returns-else-not-has_condition
 returns-else-not-has_condition c = λ cat v hc h.
     let w = there (goal.at.returns-else-not-has_condition c).Else-not-has_condition in
-    let g = found (goal.at.returns-else-not-has_condition c).In-At cat v hc h in
+    let g = found (goal.at.returns-else-not-has_condition c).In-Ok cat v hc h in
     sized_as bound_statement
     (update_table_lem cat v (from (goal.at.returns-else-not-has_condition c).After-assignments-list v h) (returning (goal.at.returns-else-not-has_condition c).After-assignments-list v h) (conflict (goal.at.returns-else-not-has_condition c).After-assignments-list v h) (some-assigned (goal.at.returns-else-not-has_condition c).After-table_of v h) g.gives (there_is w v.condition (c.condition_of-w.ensures v h)))
-    (c.update_size.ensures g.value v.assignments w.value g.lies.holds (c.assignments-list.ensures v h) (there_reads w))
+    (c.update_size.ensures g.value v.assignments w.value g.holds (c.assignments-list.ensures v h) (there_reads w))
 
-pub returns-in-Refused : goal.returns-in-Refused
-returns-in-Refused c = λ cat v hc h.
+pub returns-in-Err : goal.returns-in-Err
+returns-in-Err c = λ cat v hc h.
     sized_refused bound_statement
-    (update_unresolved cat v (from (goal.at.returns-in-Refused c).After-assignments-list v h) (returning (goal.at.returns-in-Refused c).After-assignments-list v h) (conflict (goal.at.returns-in-Refused c).After-assignments-list v h) (some-assigned (goal.at.returns-in-Refused c).After-table_of v h)
-    (resolved_off _ _ (c.resolve_direct_table.ensures cat v.table (catalogue_tables _ hc) (c.table_of.ensures v h)) c.in-Refused.is))
+    (update_unresolved cat v (from (goal.at.returns-in-Err c).After-assignments-list v h) (returning (goal.at.returns-in-Err c).After-assignments-list v h) (conflict (goal.at.returns-in-Err c).After-assignments-list v h) (some-assigned (goal.at.returns-in-Err c).After-table_of v h)
+    (resolved_off _ (c.resolve_direct_table.ensures cat v.table (catalogue_tables _ hc) (c.table_of.ensures v h)) c.in-Err.is))

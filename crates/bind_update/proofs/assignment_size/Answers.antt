@@ -10,15 +10,15 @@ use Rattle.rules.specs.Tables.{TableSchema}
 use Rattle.bind_update.specs.Targets.{target_column, ColumnGiven, targeted_is, targeted_off}
 use Rattle.bind_update.proofs.Assigning.{judged_target, judged_repeated, judged_assigned}
 use Rattle.bind_update.specs.Within.{assignment_target_lem, assignment_value}
-use Rattle.bind_update.proofs.assignment_size.Goals.{In-Is}
+use Rattle.bind_update.proofs.assignment_size.Goals.{In-Ok}
 use Rattle.bind_update.proofs.assignment_size.Goals as goal
 
 -- the column that was found
-column : (c : In-Is) (v : TableSchema) (x : Assignment) → Holds table c.args.t.now v
+column : (c : In-Ok) (v : TableSchema) (x : Assignment) → Holds table c.args.t.now v
     → Holds assignment c.args.a.now x
-    → ColumnGiven c.args.t.now (target_column v x.target) c.in-Is.c
+    → ColumnGiven (target_column v x.target) c.in-Ok.c
 column c v x hv hx =
-    targeted_is _ _ (c.target_column.ensures v x.target hv (c.target_of.ensures x hx)) c.in-Is.is
+    targeted_is _ (c.target_column.ensures v x.target hv (c.target_of.ensures x hx)) c.in-Ok.is
 
 pub target_column-requires : goal.target_column-requires
 target_column-requires c =
@@ -26,7 +26,7 @@ target_column-requires c =
     (p.0, assignment_target_lem p.1 c.target_of.ensures)
 
 pub returns-then-repeated : goal.returns-then-repeated
-returns-then-repeated c = record { few = tt; told = λ v x hv hx. sized_refused layout.assignment (judged_repeated _ v x (column (goal.at.returns-then-repeated c).In-Is v x hv hx).gives c.if-repeated.true) }
+returns-then-repeated c = record { few = tt; told = λ v x hv hx. sized_refused layout.assignment (judged_repeated _ v x (column (goal.at.returns-then-repeated c).In-Ok v x hv hx).gives c.if-repeated.true) }
 
 pub assign_size-requires : goal.assign_size-requires
 assign_size-requires c =
@@ -34,7 +34,7 @@ assign_size-requires c =
       p.0,
       (
         assignment_value p.1 c.value_of.ensures,
-        held p.0 (λ v hv. held p.1.is (λ x hx. (column (goal.at.assign_size-requires c).In-Is v x hv hx).column)),
+        held p.0 (λ v hv. held p.1.is (λ x hx. (column (goal.at.assign_size-requires c).In-Ok v x hv hx).column)),
       ),
     )
 
@@ -42,15 +42,15 @@ pub returns-else-repeated : goal.returns-else-repeated
 returns-else-repeated c = record {
   few = c.assign_size.ensures.few;
   told = λ v x hv hx.
-      let g = column (goal.at.returns-else-repeated c).In-Is v x hv hx in
+      let g = column (goal.at.returns-else-repeated c).In-Ok v x hv hx in
       sized_as layout.assignment (judged_assigned _ v x g.gives c.if-repeated.false)
       (c.assign_size.ensures.told v x.value g.column.value hv (c.value_of.ensures x hx) g.column.is);
 }
 
-pub returns-in-Refused : goal.returns-in-Refused
-returns-in-Refused c = record {
+pub returns-in-Err : goal.returns-in-Err
+returns-in-Err c = record {
   few = tt;
   told = λ v x hv hx.
       sized_refused layout.assignment
-      (judged_target c.args.repeated v x (targeted_off _ _ (c.target_column.ensures v x.target hv (c.target_of.ensures x hx)) c.in-Refused.is));
+      (judged_target c.args.repeated v x (targeted_off _ (c.target_column.ensures v x.target hv (c.target_of.ensures x hx)) c.in-Err.is));
 }

@@ -6,14 +6,14 @@ use Prim.Native.Nat.{ℕ, ◌≤◌}
 use lib.ListN.{length}
 use native.Mathlib.Omega.{arith}
 use Rattle.bytes_bundle.specs.Held.{is_held, held_once}
-use Rattle.catalogue_lookup.specs.Finds.{FindsColumn}
+use Rattle.catalogue_lookup.specs.Finds.{ColumnIs}
 use Rattle.image_parts.specs.Layout.{object_name, assignment_target}
 use Rattle.bind_expression.specs.Small.{name_length}
 use Rattle.text_names.specs.Compared.{named}
 use Rattle.bind_table.specs.Tables.{Only, only, only_is, only_short, only_value}
 use Rattle.rules.specs.Lookup.{column_by_name}
 use Rattle.rules.specs.Names.{canonical}
-use Rattle.bind_update.specs.Targets.{TargetNamed, target_named, column_tuple, column_qualified, column_unknown, column_is}
+use Rattle.bind_update.specs.Targets.{target_column, TargetedAs, looked_up, TargetNamed, target_named, column_tuple, column_qualified, column_unknown, column_is}
 use Rattle.bind_update.specs.Within.{target_short}
 use Rattle.bind_update.proofs.target_column.Goals.{After-target_name-o}
 use Rattle.bind_update.proofs.target_column.Goals.{After-only_name-n}
@@ -65,22 +65,20 @@ find_column-requires c =
       subst (λ (s : List ℕ). length s ≤ 128) (sym (c.name_text.ensures w.value w.part)) (short (goal.at.find_column-requires c).After-only_name-n),
     )
 
-pub returns-in-Is : goal.returns-in-Is
-returns-in-Is c = λ v x hv hx.
-    let w = one (goal.at.returns-in-Is c).After-only_name-n in
-    let o = object (goal.at.returns-in-Is c).After-target_name-o in
-    let t = c.args.t.now in
-    let f = subst (FindsColumn t (canonical (named c.name_is_quoted.result c.name_text.result.now))) c.in-Is.is c.find_column.ensures v hv in
-    let e = sym (ap (column_by_name v) (compared (goal.at.returns-in-Is c).After-name_text)) ∙ f.1 in
+pub returns : goal.returns
+returns c = λ v x hv hx.
+    let w = one (goal.at.returns c).After-only_name-n in
+    let o = object (goal.at.returns c).After-target_name-o in
+    let same_name = sym (ap (column_by_name v) (compared (goal.at.returns c).After-name_text)) in
+    let whole = held_once assignment_target hx o.whole in
+    let found = column_by_name v (canonical (named c.name_is_quoted.result c.name_text.result.now)) in
+    subst (TargetedAs (target_column v x)) (sym c.ok_or.ensures.value)
+    (looked_up (target_column v x) c.find_column.result
+    (λ r q.
+    let f = subst (ColumnIs found) q (c.find_column.ensures v hv) in
+    let e = same_name ∙ f.1 in
     record {
-      column = record { value = f.0; is = f.2; short = omega (arith, name_length v w.value e, short (goal.at.returns-in-Is c).After-only_name-n) };
-      gives = column_is v x (held_once assignment_target hx o.whole) (only_value w o.value o.part) e;
-    }
-
-pub returns-in-Nothing : goal.returns-in-Nothing
-returns-in-Nothing c = λ v x hv hx.
-    let w = one (goal.at.returns-in-Nothing c).After-only_name-n in
-    let o = object (goal.at.returns-in-Nothing c).After-target_name-o in
-    let t = c.args.t.now in
-    let f = subst (FindsColumn t (canonical (named c.name_is_quoted.result c.name_text.result.now))) c.in-Nothing.is c.find_column.ensures v hv in
-    column_unknown v x (held_once assignment_target hx o.whole) (only_value w o.value o.part) (sym (ap (column_by_name v) (compared (goal.at.returns-in-Nothing c).After-name_text)) ∙ f)
+      column = record { value = f.0; is = f.2; short = omega (arith, ap length f.2.name, name_length v w.value e, short (goal.at.returns c).After-only_name-n) };
+      gives = column_is v x whole (only_value w o.value o.part) e;
+    })
+    (λ q. column_unknown v x whole (only_value w o.value o.part) (same_name ∙ subst (ColumnIs found) q (c.find_column.ensures v hv))))

@@ -30,15 +30,18 @@ told : (c : After-same) (v : ColumnSchema)
     → c.same.result ≡ same c.args.name.now v.name
 told c v h = c.same.ensures ∙ ap (same c.args.name.now) (c.column_name.ensures v h)
 
+pub read_column-requires : goal.read_column-requires
+read_column-requires c = part_is {f = column_schema 2} c.next-end.ensures c.requires
+
 pub returns-then-same : goal.returns-then-same
 returns-then-same c = λ cs h.
     let a = c.args in
-    let d = c.next-end.ensures in
-    let v = turn {f = column_schema 2} d h in
+    let v = turn {f = column_schema 2} c.next-end.ensures h in
     record {
+      number = c.loop-i.i;
       value = v.value;
-      lies = record { forth = d.forth; within = d.within; holds = v.holds };
-      bound = λ t. left_turn (c.loop-i.invariant.1 t) d cs h
+      read = c.read_column.ensures v.value v.holds;
+      bound = λ t. left_turn (c.loop-i.invariant.1 t) c.next-end.ensures cs h
           ∙ bound_hit a.name.now t c.loop-i.i v.value (drop (c.loop-i.i + 1) cs) (sym (told (goal.at.returns-then-same c).After-same v.value v.holds) ∙ c.if-same.true);
     }
 

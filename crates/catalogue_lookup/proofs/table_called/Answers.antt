@@ -33,12 +33,11 @@ pub returns-then-same : goal.returns-then-same
 unfolding table_by_name
 returns-then-same c = λ ts h.
     let a = c.args in
-    let d = c.next-end.ensures in
-    let t = turn {f = table} d h in (
+    let t = turn {f = table} c.next-end.ensures h in (
       t.value,
-      left_turn c.loop-i.invariant.1 d ts h
+      left_turn c.loop-i.invariant.1 c.next-end.ensures ts h
           ∙ find_hit (table_named a.name.now) t.value (drop (c.loop-i.i + 1) ts) (sym (told (goal.at.returns-then-same c).After-same t.value t.holds) ∙ c.if-same.true),
-      record { forth = d.forth; within = d.within; holds = t.holds },
+      t.holds,
     )
 
 pub loop-i-preserved : goal.loop-i-preserved
