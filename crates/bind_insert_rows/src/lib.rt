@@ -11,14 +11,15 @@ ghost use Rattle.rules.specs.Bound.{Value, BoundColumnRef};
 ghost use Rattle.rules.specs.Statements.{Expr};
 ghost use Rattle.image_parts.specs.Layout.{source_body, insertion};
 ghost use Rattle.rules.specs.Analyze.{value_fit, insert_row, insert_body};
-ghost use Rattle.bind_fits.specs.Told.{told_fit, kind_of};
+ghost use Rattle.bind_fits.specs.Told.{kind_of};
+ghost use Rattle.bind_operators.specs.Told.{told};
 ghost use Rattle.bind_table.specs.Told.{sized};
 ghost use Rattle.bind_insert_columns.specs.Coded.{column_code};
 ghost use Rattle.bind_insert_columns.specs.Small.{AtMost};
 ghost use Rattle.bind_insert_rows.specs.Values.{Measures, insert_value, fit_told};
 ghost use Rattle.bind_insert_rows.specs.Sources.{given_rows};
 
-use bind_fits::{Fit, ValueKind, value_fit};
+use bind_fits::{ValueKind, value_fit};
 use bind_literal::{Scalar, insert_literal, text_of};
 use bind_table::{Measured, refuse};
 use image_bound::values::{bool_len, int_len, null_len, text_len};
@@ -39,19 +40,19 @@ fn type_in(code: u8) -> DataType
     DataType::Bool
 }
 
-fn fits(given: ValueKind, code: u8) -> Fit
-    ensures { (v : Value) (c : BoundColumnRef) → kind_of v ≡ given → code ≡ column_code c → result ≡ told_fit (value_fit v c) }
+fn fits(given: ValueKind, code: u8) -> Result<(), Class>
+    ensures { (v : Value) (c : BoundColumnRef) → kind_of v ≡ given → code ≡ column_code c → result ≡ told (value_fit v c) }
 {
     value_fit(given, type_in(code), 4 <= code)
 }
 
 // What fits is n bytes long.
-fn fitted(fit: Fit, n: usize) -> Measured
+fn fitted(fit: Result<(), Class>, n: usize) -> Measured
     ensures { result ≡ fit_told fit n }
 {
     match fit {
-        Fit::Fine => Measured::Is(n),
-        Fit::Flaw(class) => refuse(class),
+        Ok(()) => Measured::Is(n),
+        Err(class) => refuse(class),
     }
 }
 
@@ -60,11 +61,11 @@ fn value_len(e: &[u8], code: u8) -> Measured
     ensures { AtMost 65537 result × ((x : Expr) (c : BoundColumnRef) → Holds expression e.now x → code ≡ column_code c → result ≡ sized value (insert_value x c)) }
 {
     match insert_literal(e) {
-        Scalar::Int(_) => fitted(fits(ValueKind::Int, code), int_len()),
-        Scalar::Text => fitted(fits(ValueKind::Text, code), text_len(text_of(e).len())),
-        Scalar::Bool(_) => fitted(fits(ValueKind::Bool, code), bool_len()),
-        Scalar::Null => fitted(fits(ValueKind::Null, code), null_len()),
-        Scalar::Refused(r) => Measured::Refused(r),
+        Ok(Scalar::Int(_)) => fitted(fits(ValueKind::Int, code), int_len()),
+        Ok(Scalar::Text) => fitted(fits(ValueKind::Text, code), text_len(text_of(e).len())),
+        Ok(Scalar::Bool(_)) => fitted(fits(ValueKind::Bool, code), bool_len()),
+        Ok(Scalar::Null) => fitted(fits(ValueKind::Null, code), null_len()),
+        Err(r) => Measured::Refused(r),
     }
 }
 
