@@ -1,6 +1,6 @@
 -- The rows of an INSERT held against the bytes of the target columns, value by value.
 -- Assumes nothing.
-use Rattle.std.specs.Prelude.{◌≡◌, List, [], ◌∷◌, ℕ, zero, suc, ◌+◌, ◌-◌, ◌≤◌, ◌<◌, length, take, drop, get_or}
+use Rattle.std.specs.Prelude.{◌≡◌, List, [], ◌∷◌, ℕ, zero, suc, ◌+◌, ◌-◌, ◌≤◌, ◌<◌, length, take, drop, get_or, Result, Ok, Err}
 use Rattle.std.proofs.Math.Path.{refl}
 use Rattle.std.proofs.Common.{sym, ap, ap₂, ◌∙◌, add-one, arith, drop_of_length-le, eq-eqb, ne_eqb}
 use Rattle.std.proofs.Math.Bool.{not}
@@ -10,15 +10,14 @@ use Rattle.image_value.specs.Parts.{value}
 use Rattle.bytes_bundle.specs.Bundle.{Stepped}
 use Rattle.bytes_bundle.specs.Held.{Holds, Along, turn, list_count}
 use Rattle.image_expression.specs.Expression.{expression}
+use Rattle.rules.specs.declared.Class.{Class}
 use Rattle.rules.specs.declared.Class.TheVariants.{ConstraintViolation}
 use Rattle.rules.specs.declared.Refusal.{Refusal}
 use Rattle.rules.specs.Answers.{Answer, given, refused, each, ◌>>=◌, ◌>>◌, Verdict, fine, flaw, judged}
 use Rattle.rules.specs.Bound.{Value, BoundColumnRef}
 use Rattle.rules.specs.Statements.{Expr}
 use Rattle.rules.specs.Analyze.{insert_literal, value_fit, insert_values, insert_row}
-use Rattle.bind_fits.specs.declared.Fit.{Fit}
-use Rattle.bind_fits.specs.declared.Fit.TheVariants.{Fine, Flaw}
-use Rattle.bind_fits.specs.Told.{told_fit}
+use Rattle.bind_operators.specs.Told.{told}
 use Rattle.std.specs.Prelude.{Result, Ok, Err, IfOk}
 use Rattle.bind_table.specs.Told.{sized}
 use Rattle.bind_table.specs.Steps.{classed, step_on, step_off, test_on, test_off, judged_on, judged_off, sized_given, sized_refused, sized_is, sized_off, sized_as}
@@ -34,20 +33,20 @@ Measures {A} codes n f s g F r = (cs : List BoundColumnRef) (a : A) → Coded co
 unfoldable pub insert_value : Expr → BoundColumnRef → Answer Value
 insert_value e c = insert_literal e >>= (λ v. judged (value_fit v c) >> given v)
 
-abbrev pub fit_told : Fit → ℕ → Result ℕ Refusal
-fit_told Fine n = Ok n
-fit_told (Flaw k) n = Err (classed k)
+abbrev pub fit_told : Result Unit Class → ℕ → Result ℕ Refusal
+fit_told (Ok u) n = Ok n
+fit_told (Err k) n = Err (classed k)
 
-pub fit_most : (f : Fit) {n k : ℕ} → n ≤ k → IfOk (fit_told f n) (λ m. m ≤ k)
-fit_most Fine h = h
-fit_most (Flaw j) h = tt
+pub fit_most : (f : Result Unit Class) {n k : ℕ} → n ≤ k → IfOk (fit_told f n) (λ m. m ≤ k)
+fit_most (Ok u) h = h
+fit_most (Err j) h = tt
 
 module _ (x : Expr) (c : BoundColumnRef) where
-  pub value_told : {v : Value} {n : ℕ} → insert_literal x ≡ given v → n ≡ length (value.write v) → fit_told (told_fit (value_fit v c)) n ≡ sized value (insert_value x c)
+  pub value_told : {v : Value} {n : ℕ} → insert_literal x ≡ given v → n ≡ length (value.write v) → fit_told (told (value_fit v c)) n ≡ sized value (insert_value x c)
   unfolding insert_value
   value_told {v} {n} e h = go (value_fit v c) refl
     where
-      go : (j : Verdict Unit) → value_fit v c ≡ j → fit_told (told_fit j) n ≡ sized value (insert_value x c)
+      go : (j : Verdict Unit) → value_fit v c ≡ j → fit_told (told j) n ≡ sized value (insert_value x c)
       go (fine u) q = sized_given value (step_on _ e ∙ judged_on _ q) h
       go (flaw k) q = sized_refused value (step_on _ e ∙ judged_off _ q)
 

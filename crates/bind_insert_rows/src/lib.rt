@@ -11,13 +11,14 @@ ghost use Rattle.rules.specs.Bound.{Value, BoundColumnRef};
 ghost use Rattle.rules.specs.Statements.{Expr};
 ghost use Rattle.image_parts.specs.Layout.{source_body, insertion};
 ghost use Rattle.rules.specs.Analyze.{value_fit, insert_row, insert_body};
-ghost use Rattle.bind_fits.specs.Told.{told_fit, kind_of};
+ghost use Rattle.bind_fits.specs.Told.{kind_of};
+ghost use Rattle.bind_operators.specs.Told.{told};
 ghost use Rattle.bind_table.specs.Told.{sized};
 ghost use Rattle.bind_insert_columns.specs.Coded.{column_code};
 ghost use Rattle.bind_insert_rows.specs.Values.{Measures, insert_value, fit_told};
 ghost use Rattle.bind_insert_rows.specs.Sources.{given_rows};
 
-use bind_fits::{Fit, ValueKind, value_fit};
+use bind_fits::{ValueKind, value_fit};
 use bind_literal::{Scalar, insert_literal, text_of};
 use image_bound::values::{bool_len, int_len, null_len, text_len};
 use image_insert::{body_of, explicit_row, has_clauses, has_source, is_values, rows_of, source_of};
@@ -37,20 +38,18 @@ fn type_in(code: u8) -> DataType
     DataType::Bool
 }
 
-fn fits(given: ValueKind, code: u8) -> Fit
-    ensures { (v : Value) (c : BoundColumnRef) → kind_of v ≡ given → code ≡ column_code c → result ≡ told_fit (value_fit v c) }
+fn fits(given: ValueKind, code: u8) -> Result<(), Class>
+    ensures { (v : Value) (c : BoundColumnRef) → kind_of v ≡ given → code ≡ column_code c → result ≡ told (value_fit v c) }
 {
     value_fit(given, type_in(code), 4 <= code)
 }
 
 // What fits is n bytes long.
-fn fitted(fit: Fit, n: usize) -> Result<usize, Refusal>
+fn fitted(fit: Result<(), Class>, n: usize) -> Result<usize, Refusal>
     ensures { result ≡ fit_told fit n }
 {
-    match fit {
-        Fit::Fine => Ok(n),
-        Fit::Flaw(class) => Err(Refusal { class }),
-    }
+    fit?;
+    Ok(n)
 }
 
 fn value_len(e: &[u8], code: u8) -> Result<usize, Refusal>
@@ -58,11 +57,11 @@ fn value_len(e: &[u8], code: u8) -> Result<usize, Refusal>
     ensures { IfOk result (λ k. k ≤ 65537) × ((x : Expr) (c : BoundColumnRef) → Holds expression e.now x → code ≡ column_code c → result ≡ sized value (insert_value x c)) }
 {
     match insert_literal(e) {
-        Scalar::Int(_) => fitted(fits(ValueKind::Int, code), int_len()),
-        Scalar::Text => fitted(fits(ValueKind::Text, code), text_len(text_of(e).len())),
-        Scalar::Bool(_) => fitted(fits(ValueKind::Bool, code), bool_len()),
-        Scalar::Null => fitted(fits(ValueKind::Null, code), null_len()),
-        Scalar::Refused(r) => Err(r),
+        Ok(Scalar::Int(_)) => fitted(fits(ValueKind::Int, code), int_len()),
+        Ok(Scalar::Text) => fitted(fits(ValueKind::Text, code), text_len(text_of(e).len())),
+        Ok(Scalar::Bool(_)) => fitted(fits(ValueKind::Bool, code), bool_len()),
+        Ok(Scalar::Null) => fitted(fits(ValueKind::Null, code), null_len()),
+        Err(r) => Err(r),
     }
 }
 

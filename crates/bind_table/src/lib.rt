@@ -23,7 +23,6 @@ use image_parts::table::{
 };
 use rules::{Class, Refusal};
 
-
 // The table that a name of one part stands for.
 fn find_named<'a>(c: &'a [u8], n: &[u8]) -> Option<&'a [u8]>
     requires { Is (list_of 2 table) c.now × (Is name n.now × ShortText n.now) }

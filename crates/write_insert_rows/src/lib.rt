@@ -22,17 +22,18 @@ pub fn put_length(out: &mut [u8], at: usize, n: usize) -> usize
     bytes_wire::put(out, at, 4, n as u64)
 }
 
+#[tactic(auto, using(crate::specs::Values::literal_never, crate::specs::Values::int_puts, crate::specs::Values::text_puts, crate::specs::Values::bool_puts, crate::specs::Values::null_puts))]
 fn put_value(out: &mut [u8], at: usize, e: &[u8]) -> usize
     requires { Gives expression e.now insert_literal value at out.old }
     ensures { Puts expression e.now insert_literal value out.old at result out.new }
 {
     match insert_literal(e) {
-        Scalar::Int(z) => put_int(out, at, z),
-        Scalar::Text => put_text(out, at, text_of(e)),
-        Scalar::Bool(b) => put_bool(out, at, b),
-        Scalar::Null => put_null(out, at),
+        Ok(Scalar::Int(z)) => put_int(out, at, z),
+        Ok(Scalar::Text) => put_text(out, at, text_of(e)),
+        Ok(Scalar::Bool(b)) => put_bool(out, at, b),
+        Ok(Scalar::Null) => put_null(out, at),
         // never: it is a literal
-        Scalar::Refused(_) => at,
+        Err(_) => at,
     }
 }
 
