@@ -1,15 +1,8 @@
 -- `leaves::column` meets its contract.
-use mathlib.Core.Path.{◌∙◌}
 use native.Mathlib.Omega.{arith}
 use Rattle.text_names.specs.Compared.{named}
-use Rattle.bind_expression.proofs.Looked.{column_span, column_is, column_none}
+use Rattle.bind_expression.proofs.Looked.{column_span}
 use Rattle.bind_expression.proofs.leaves.column.Goals as goal
-
-pub overflow_sub-c : goal.overflow_sub-c
-overflow_sub-c c =
-    let a = c.args in
-    let l = column_span a.t.now (named a.quoted a.name.now) _ c.find_column.ensures c.requires.0 _ c.in-Is.is in
-    omega (arith, l.0)
 
 pub column_ref_len-requires : goal.column_ref_len-requires
 column_ref_len-requires c =
@@ -22,15 +15,3 @@ one_leaf-requires c =
     let a = c.args in
     let l = column_span a.t.now (named a.quoted a.name.now) _ c.find_column.ensures c.requires.0 _ c.in-Is.is in
     omega (arith, c.column_ref_len.ensures.0, l.1, c.requires.1)
-
-pub returns-in-Is : goal.returns-in-Is
-returns-in-Is c v h =
-    let a = c.args in
-    c.one_leaf.ensures
-    ∙ column_is a.t.now (named a.quoted a.name.now) _ c.find_column.ensures v h _ c.in-Is.is _
-    c.column_mark.ensures _ c.column_ref_len.ensures.1
-
-pub returns-in-Nothing : goal.returns-in-Nothing
-returns-in-Nothing c v h =
-    let a = c.args in
-    c.refuse.ensures ∙ column_none a.t.now (named a.quoted a.name.now) _ c.find_column.ensures v h c.in-Nothing.is
