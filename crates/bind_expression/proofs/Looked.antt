@@ -10,6 +10,7 @@ use Rattle.std.specs.Prelude.{Option as Maybe, Some, None}
 use native.Mathlib.Omega.{arith}
 use lib.IntN.{ℤ}
 use lib.ListN.{length}
+use Rattle.std.specs.Prelude.{Ok}
 use Rattle.rules.specs.declared.Class.TheVariants.{SchemaMismatch}
 use Rattle.rules.specs.declared.ExpressionType.{ExpressionType}
 use Rattle.rules.specs.declared.ExpressionType.TheVariants as type
@@ -27,8 +28,7 @@ use Rattle.catalogue_lookup.specs.Finds.{ColumnIs, FindsColumn}
 use Rattle.bytes_bundle.specs.Held.{Is, Holds, held}
 use Rattle.image_value.specs.Parts.{value}
 use Rattle.image_bound.specs.Columns.{bound_column_ref}
-use Rattle.bind_expression.specs.declared.Marked.{Marked}
-use Rattle.bind_expression.specs.declared.Marked.TheVariants as marked
+use Rattle.bind_expression.specs.declared.Measured.{Measured}
 use Rattle.bind_expression.specs.Told.{run, refused_with, leaf_told, type_of, text_of}
 use Rattle.bind_expression.specs.Small.{name_length}
 
@@ -50,8 +50,8 @@ literal_length r f v e q = go v (rw (e, q) f)
     go (Value.bool b) g = g b
     go Value.null g = g
 
-pub number_is : (o : Option ℤ) (z : ℤ) → literal.told o ≡ Some z → {r : Marked}
-    → ((v : Value) → type_of v ≡ type.Int → text_of v ≡ 0 → r ≡ leaf_told (literal_leaf v type.Int false)) → r ≡ leaf_told (integer_leaf o)
+pub number_is : (o : Option ℤ) (z : ℤ) → literal.told o ≡ Some z → {r : Measured}
+    → ((v : Value) → type_of v ≡ type.Int → text_of v ≡ 0 → Ok r ≡ leaf_told (literal_leaf v type.Int false)) → Ok r ≡ leaf_told (integer_leaf o)
 number_is (some y) z h f = f (Value.int y) refl refl
 number_is none z h f = absurd (let n : ◌≡◌ {A = ℕ} 0 1 = cc in omega arith)
 
@@ -72,10 +72,10 @@ module _ (t : List ℕ) (n : Name) (r : Maybe Column) (found : FindsColumn t (ca
   module _ (v : TableSchema) (h : Holds table t v) where
     pub column_is : (c : Column) → r ≡ Some c → (m : Mark) → ((b : BoundColumnRef) → b.ty ≡ c.ty → b.nullable ≡ c.nullable → m ≡ column_mark b)
         → (k : ℕ) → ((b : BoundColumnRef) → length b.name ≡ length c.name.now → k ≡ length (bound_column_ref.write b))
-        → marked.Is (run (k + 11) m) ≡ leaf_told (column_leaf (column_by_name v (canonical n)))
+        → Ok (run (k + 11) m) ≡ leaf_told (column_leaf (column_by_name v (canonical n)))
     column_is c p m f k g =
         let w = subst (ColumnIs (column_by_name v (canonical n))) p (found v h) in
-        rw w.1 (ap₂ (λ (x : Mark) (y : ℕ). marked.Is (run (y + 11) x)) (f w.0 (sym w.2.ty) (sym w.2.nullable)) (g w.0 (ap length (sym w.2.name))))
+        rw w.1 (ap₂ (λ (x : Mark) (y : ℕ). Ok (run (y + 11) x)) (f w.0 (sym w.2.ty) (sym w.2.nullable)) (g w.0 (ap length (sym w.2.name))))
 
     pub column_none : r ≡ None → refused_with SchemaMismatch ≡ leaf_told (column_leaf (column_by_name v (canonical n)))
     column_none p = let w = subst (ColumnIs (column_by_name v (canonical n))) p (found v h) in rw w

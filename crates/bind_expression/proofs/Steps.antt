@@ -9,10 +9,12 @@ use native.Mathlib.Omega.{arith}
 use lib.Dec.{ltb, eqb, lit<}
 use lib.ListN.{length}
 use borrow.Author.Tests.{ltb-true, eqb-true, lt-ltb, eq-eqb}
+use Rattle.std.specs.Prelude.{Result, Ok, Err}
 use Rattle.bytes_wire.specs.Le.{Bytes}
 use Rattle.tree.specs.Tree.{leaf, un, bin}
 use Rattle.bytes_bundle.specs.Decides.{and_of}
 use Rattle.rules.specs.declared.BoundUnaryOperator.TheVariants.{Positive, Negative, Not}
+use Rattle.rules.specs.declared.Mark.{Mark}
 use Rattle.rules.specs.declared.Refusal.{Refusal}
 use Rattle.rules.specs.Lists.{Text}
 use Rattle.rules.specs.Bound.{BoundExpr}
@@ -28,9 +30,7 @@ use Rattle.image_expression.specs.Laws.{placed, leaf_at, bin_at}
 use Rattle.image_bound.specs.Expression.{bound_expression}
 use Rattle.bytes_bundle.specs.Held.{Holds}
 use Rattle.bind_expression.specs.declared.Measured.{Measured}
-use Rattle.bind_expression.specs.declared.Marked.{Marked}
-use Rattle.bind_expression.specs.declared.Marked.TheVariants as marked
-use Rattle.bind_expression.specs.declared.Sized.TheVariants as sized
+use Rattle.bind_expression.specs.declared.BoundExpression.{BoundExpression}
 use Rattle.bind_expression.specs.Told.{measured, leaf_told, after, null_told, over_one, over_two, unary_told}
 use Rattle.bind_expression.specs.Marks.{Marks, Sizes, marked_is, marked_refused}
 use Rattle.bind_expression.proofs.Told.{leaf_told_lem, un_told, bin_told, after_same, after_is}
@@ -95,7 +95,7 @@ null_by_kind (unary Negative) lo hi m = absurd (omega arith)
 null_by_kind (unary Not) lo hi m = absurd (omega arith)
 null_by_kind other_unary lo hi m = absurd (omega arith)
 
-parens_by_kind : (o : Unary) → un_kind o ≡ 9 → (m : Measured) → marked.Is m ≡ unary_told o m
+parens_by_kind : (o : Unary) → un_kind o ≡ 9 → (m : Measured) → Ok m ≡ unary_told o m
 unfolding un_kind unary_told
 parens_by_kind parentheses h m = refl
 parens_by_kind (null_test false) h m = absurd (omega arith)
@@ -115,7 +115,7 @@ operator_by_kind other_unary lo m = refl
 
 -- ---- the steps
 
-module _ (t e : List ℕ) (i k : ℕ) (is : k ≡ (node_at e i).kind) (r : Marked) where
+module _ (t e : List ℕ) (i k : ℕ) (is : k ≡ (node_at e i).kind) (r : Result Measured Refusal) where
   pub leaf_says : k < 9 → ((v : TableSchema) → Holds table t v → r ≡ leaf_told (leaf_rule v (leaf_of k (node_at e i).text))) → Marks t e i r
   unfolding bind_expression
   leaf_says hi q v h x g = rw (leaf_at (node_at e) i k is x g hi) (q v h ∙ leaf_told_lem (leaf_rule v (leaf_of k (node_at e i).text)))
@@ -137,8 +137,8 @@ module _ (t e : List ℕ) (i k : ℕ) (is : k ≡ (node_at e i).kind) (r : Marke
 
   -- the operand's answer is y, the node makes f of what it measures, and the two are no literal
   pub un_says : 9 ≤ k → k < 16 → (12 ≤ k → k < 14 → (node_at e (i - 1)).kind ≡ 2 → ⊥)
-      → (f : Measured → Marked) → ((o : Unary) → k ≡ un_kind o → (m : Measured) → f m ≡ unary_told o m)
-      → (y : Marked) → Marks t e (i - 1) y → r ≡ after y f → Marks t e i r
+      → (f : Measured → Result Measured Refusal) → ((o : Unary) → k ≡ un_kind o → (m : Measured) → f m ≡ unary_told o m)
+      → (y : Result Measured Refusal) → Marks t e (i - 1) y → r ≡ after y f → Marks t e i r
   unfolding Root top bind_expression signed_number
   un_says lo hi n f d y s q v h (leaf l) g = absurd (omega (arith, leaf_range l, ap kind_of g))
   un_says lo hi n f d y s q v h (un o a) g =
@@ -149,27 +149,27 @@ module _ (t e : List ℕ) (i k : ℕ) (is : k ≡ (node_at e i).kind) (r : Marke
 
   pub parens_says : k ≡ 9 → Marks t e (i - 1) r → Marks t e i r
   parens_says z s =
-      un_says (omega arith) (omega arith) (λ lo hi n. omega arith) marked.Is (λ o c. parens_by_kind o (sym c ∙ z)) r s (after_is r)
+      un_says (omega arith) (omega arith) (λ lo hi n. omega arith) Ok (λ o c. parens_by_kind o (sym c ∙ z)) r s (after_is r)
 
-  pub null_says : 10 ≤ k → k < 12 → (y : Marked) → Marks t e (i - 1) y → r ≡ after y null_told → Marks t e i r
+  pub null_says : 10 ≤ k → k < 12 → (y : Result Measured Refusal) → Marks t e (i - 1) y → r ≡ after y null_told → Marks t e i r
   null_says lo hi y s q =
       un_says (omega arith) (omega arith) (λ l m n. omega arith) null_told (λ o c. null_by_kind o (omega arith) (omega arith)) y s q
 
-  pub operator_says : 12 ≤ k → k < 16 → signs k (node_at e (i - 1)) ≡ false → (y : Marked) → Marks t e (i - 1) y
+  pub operator_says : 12 ≤ k → k < 16 → signs k (node_at e (i - 1)) ≡ false → (y : Result Measured Refusal) → Marks t e (i - 1) y
       → r ≡ after y (over_one (unary_rule (un_of k))) → Marks t e i r
   operator_says lo hi f y s q =
       un_says (omega arith) hi (λ l. no_sign k (node_at e (i - 1)) f) (over_one (unary_rule (un_of k)))
       (λ o c m. ap (λ (p : Unary). over_one (unary_rule p) m) (ap un_of c ∙ un_of_lem o) ∙ operator_by_kind o (omega arith) m) y s q
 
-  module _ (lo : 16 ≤ k) (n : ℕ) (d : n ≡ (node_at e (i - 1)).span) (y : Marked) (left : Marks t e (i - 1 - n) y) where
+  module _ (lo : 16 ≤ k) (n : ℕ) (d : n ≡ (node_at e (i - 1)).span) (y : Result Measured Refusal) (left : Marks t e (i - 1 - n) y) where
     -- the left operand's refusal stands
-    pub left_says : (q : Refusal) → y ≡ marked.Refused q → r ≡ marked.Refused q → Marks t e i r
+    pub left_says : (q : Refusal) → y ≡ Err q → r ≡ Err q → Marks t e i r
     unfolding bind_expression
     left_says q p z v h x g =
         let a = bin_at (node_at e) i k is n d x g lo in
         rw (a.is, marked_refused t e h (i - 1 - n) a.left a.left_root left p) z
 
-    pub bin_says : (m : Measured) → y ≡ marked.Is m → (z : Marked) → Marks t e (i - 1) z
+    pub bin_says : (m : Measured) → y ≡ Ok m → (z : Result Measured Refusal) → Marks t e (i - 1) z
         → r ≡ after z (over_two (binary_rule (bin_of k)) m) → Marks t e i r
     unfolding bind_expression
     bin_says m p z right q v h x g =
@@ -181,12 +181,15 @@ module _ (t e : List ℕ) (i k : ℕ) (is : k ≡ (node_at e i).kind) (r : Marke
 
 -- ---- a whole expression
 
-module _ (t e : List ℕ) (b : Bytes e) (n : ℕ) (is : n ≡ node_count e) (y : Marked) (s : Marks t e (n - 1) y) where
-  pub size_says : (m : Measured) → y ≡ marked.Is m → (k : ℕ) → ((c : BoundExpr) → measured c ≡ m → k ≡ length (bound_expression.write c))
-      → Sizes t e (sized.Is m.mark k)
+abbrev bound : Mark → ℕ → Result BoundExpression Refusal
+bound m k = Ok (record { mark = m; len = k })
+
+module _ (t e : List ℕ) (b : Bytes e) (n : ℕ) (is : n ≡ node_count e) (y : Result Measured Refusal) (s : Marks t e (n - 1) y) where
+  pub size_says : (m : Measured) → y ≡ Ok m → (k : ℕ) → ((c : BoundExpr) → measured c ≡ m → k ≡ length (bound_expression.write c))
+      → Sizes t e (Ok (record { mark = m.mark; len = k }))
   size_says m p k f v h x g =
       let w = marked_is t e h (n - 1) x (rw is (placed b g).0) s p in
-      rw w.1 (ap₂ sized.Is (sym (ap (λ (c : Measured). c.mark) w.2)) (f w.0 w.2))
+      rw w.1 (ap₂ bound (sym (ap (λ (c : Measured). c.mark) w.2)) (f w.0 w.2))
 
-  pub refused_says : (q : Refusal) → y ≡ marked.Refused q → Sizes t e (sized.Refused q)
+  pub refused_says : (q : Refusal) → y ≡ Err q → Sizes t e (Err q)
   refused_says q p v h x g = rw (marked_refused t e h (n - 1) x (rw is (placed b g).0) s p)

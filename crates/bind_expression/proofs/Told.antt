@@ -2,12 +2,14 @@
 -- Assumes nothing.
 use mathlib.Core.Path.{◌≡◌, refl}
 use mathlib.Core.Bool.{Bool}
+use Rattle.std.specs.Prelude.{Result, Ok, Err}
 use Rattle.tree.specs.Tree.{un, bin}
 use Prim.Native.Nat.{ℕ, ◌+◌}
 use Rattle.rules.specs.declared.BoundBinaryOperator.{BoundBinaryOperator}
 use Rattle.rules.specs.declared.Class.{Class}
 use Rattle.rules.specs.declared.ExpressionType.{ExpressionType}
 use Rattle.rules.specs.declared.Mark.{Mark}
+use Rattle.rules.specs.declared.Refusal.{Refusal}
 use Rattle.rules.specs.Answers.{Answer, given, refused, ◌>>=◌, Verdict, fine, flaw, judged}
 use Rattle.rules.specs.Bound as bound
 use Rattle.rules.specs.Bound.{BoundLeaf, BoundUnary, BoundExpr, mark_of}
@@ -15,29 +17,29 @@ use Rattle.rules.specs.Lookup.{mark}
 use Rattle.rules.specs.Marking.{with, typed, unary_rule, binary_rule, bound_leaf, bound_unary, bound_binary}
 use Rattle.rules.specs.Statements.{Unary, parentheses, null_test, unary, other_unary, Binary, binary, other_binary}
 use Rattle.rules.proofs.Theorems.Answered.{mapped}
-use Rattle.bind_operators.specs.declared.Entry.{Entry}
-use Rattle.bind_operators.specs.declared.Entry.TheVariants as entry
 use Rattle.bind_operators.specs.Told as operators
-use Rattle.bind_operators.specs.Told.{told_mark}
 use Rattle.bind_expression.specs.declared.Measured.{Measured}
-use Rattle.bind_expression.specs.declared.Marked.{Marked}
-use Rattle.bind_expression.specs.declared.Marked.TheVariants as marked
-use Rattle.bind_expression.specs.Told.{run, bytes_of, measured, told, verdict_told, leaf_told, ruled, refused_with, after, over_two, unary_told}
+use Rattle.bind_expression.specs.Told.{run, bytes_of, measured, told, verdict_told, leaf_told, refused_with, after, over_two, unary_told}
 
-pub ruled_told : (n : ℕ) (u : Verdict Mark) → ruled n (told_mark u) ≡ verdict_told n u
-ruled_told n (fine m) = refl
-ruled_told n (flaw k) = refl
+-- a rule that was told as a Result, by the case that it is
+pub ruled_ok : (n : ℕ) (u : Verdict Mark) {m : Mark} → Ok m ≡ operators.told u → Ok (run n m) ≡ verdict_told n u
+ruled_ok n (fine m) p = cc
+ruled_ok n (flaw k) p = cc
+
+pub ruled_err : (n : ℕ) (u : Verdict Mark) {k : Class} → Err k ≡ operators.told u → refused_with k ≡ verdict_told n u
+ruled_err n (fine m) p = cc
+ruled_err n (flaw k) p = cc
 
 -- the operators' table is asked for the type alone
-pub typed_told : (n : ℕ) (u : Verdict ExpressionType) (may : Bool) {e : Entry} {t : ExpressionType} → e ≡ entry.Type t → e ≡ operators.told u
-    → marked.Is (run n (mark t may)) ≡ verdict_told n (typed u may)
-typed_told n (fine x) may p q = cc
-typed_told n (flaw k) may p q = cc
+pub typed_told : (n : ℕ) (u : Verdict ExpressionType) (may : Bool) {t : ExpressionType} → Ok t ≡ operators.told u
+    → Ok (run n (mark t may)) ≡ verdict_told n (typed u may)
+typed_told n (fine x) may p = cc
+typed_told n (flaw k) may p = cc
 
-pub flaw_told : (n : ℕ) (u : Verdict ExpressionType) (may : Bool) {e : Entry} {k : Class} → e ≡ entry.Flaw k → e ≡ operators.told u
+pub flaw_told : (n : ℕ) (u : Verdict ExpressionType) (may : Bool) {k : Class} → Err k ≡ operators.told u
     → refused_with k ≡ verdict_told n (typed u may)
-flaw_told n (fine x) may p q = cc
-flaw_told n (flaw h) may p q = cc
+flaw_told n (fine x) may p = cc
+flaw_told n (flaw h) may p = cc
 
 pub leaf_told_lem : (u : Verdict (bound.Marked BoundLeaf)) → leaf_told u ≡ told (mapped measured (judged u >>= bound_leaf))
 unfolding bytes_of
@@ -84,10 +86,10 @@ pub bin_told : (o : Binary) (a : BoundExpr) (y : Answer BoundExpr)
 bin_told o a (given b) = over_two_lem o a b
 bin_told o a (refused q) = refl
 
-pub after_same : (y : Marked) (f g : Measured → Marked) → ((m : Measured) → f m ≡ g m) → after y f ≡ after y g
-after_same (marked.Is m) f g h = h m
-after_same (marked.Refused q) f g h = refl
+pub after_same : (y : Result Measured Refusal) (f g : Measured → Result Measured Refusal) → ((m : Measured) → f m ≡ g m) → after y f ≡ after y g
+after_same (Ok m) f g h = h m
+after_same (Err q) f g h = refl
 
-pub after_is : (y : Marked) → y ≡ after y marked.Is
-after_is (marked.Is m) = refl
-after_is (marked.Refused q) = refl
+pub after_is : (y : Result Measured Refusal) → y ≡ after y Ok
+after_is (Ok m) = refl
+after_is (Err q) = refl

@@ -1,7 +1,7 @@
 -- How large a bound expression is at most, where the names are within paper 01's limit: no sum of two sizes wraps, and the whole image's length
 -- fits 4 bytes. A leaf holds at most 65,536 bytes, and a tree of n nodes has at most (n + 1) / 2 leaves: 11 n + 65536 (n + 1) / 2 bytes.
 -- Assumes nothing.
-use Rattle.std.specs.Prelude.{◌≡◌, refl, Bool, true, false, List, [], ◌∷◌, ℕ, ◌+◌, ◌-◌, ◌*◌, ◌^◌, ◌≤◌, ◌<◌, eqb, ℤ, length, drop}
+use Rattle.std.specs.Prelude.{◌≡◌, refl, Bool, true, false, List, [], ◌∷◌, ℕ, ◌+◌, ◌-◌, ◌*◌, ◌^◌, ◌≤◌, ◌<◌, eqb, ℤ, length, drop, Result, Ok}
 use Rattle.std.proofs.Common.{◌∙◌, sym, ap, arith}
 use Rattle.std.proofs.Math.Path.{subst}
 use Rattle.std.proofs.lemmas.Bool.{false≢true}
@@ -12,6 +12,7 @@ use Rattle.tree.specs.Tree.{leaf, un, bin, size}
 use Rattle.bytes_bundle.specs.Decides.{and_of}
 use Rattle.bytes_bundle.specs.Held.{Holds, held}
 use Rattle.rules.specs.declared.Mark.{Mark}
+use Rattle.rules.specs.declared.Refusal.{Refusal}
 use Rattle.rules.specs.Lists.{Text, same, find}
 use Rattle.rules.specs.Answers.{given, ◌>>=◌, Verdict, fine, flaw, judged}
 use Rattle.rules.specs.Bound as bound
@@ -45,8 +46,6 @@ use Rattle.image_bound.specs.Runs as runs
 use Rattle.image_bound.specs.Runs.{leaf_bytes, content_length}
 use Rattle.image_bound.specs.Spelt as spelt
 use Rattle.bind_expression.specs.declared.Measured.{Measured}
-use Rattle.bind_expression.specs.declared.Marked.{Marked}
-use Rattle.bind_expression.specs.declared.Marked.TheVariants as marked
 use Rattle.bind_expression.specs.Told.{bytes_of}
 use Rattle.bind_expression.specs.Marks.{NamesWithin, Markable, Marks, marked_is}
 
@@ -186,7 +185,7 @@ nodes_short : {e : List ℕ} → Bytes e → NamesWithin e → ((j : ℕ) → j 
 nodes_short b n h j l = (n.short j l, short_text b (h j l))
 
 -- what marking answers is small
-pub small : {t e : List ℕ} {i : ℕ} → Bytes e → Markable t e i → {r : Marked} → Marks t e i r → {m : Measured} → r ≡ marked.Is m → Small m
+pub small : {t e : List ℕ} {i : ℕ} → Bytes e → Markable t e i → {r : Result Measured Refusal} → Marks t e i r → {m : Measured} → r ≡ Ok m → Small m
 small {t} {e} {i} b k s p =
     held k.table (λ v h.
     let x = every_node b k.node.image i k.node.within in

@@ -11,11 +11,10 @@ ghost use Rattle.rules.specs.Tables.{TableSchema};
 ghost use Rattle.image_value.specs.Parts.{value};
 ghost use Rattle.image_catalogue.specs.Layout.{table};
 ghost use Rattle.bytes_bundle.specs.Held.{Is, Holds};
-ghost use Rattle.bind_expression.specs.declared.Marked.TheVariants as marked;
-ghost use Rattle.bind_expression.specs.Told.{run, refused_with, leaf_told, type_of, text_of};
+ghost use Rattle.bind_expression.specs.Told.{run, leaf_told, type_of, text_of};
 ghost use Rattle.bind_expression.specs.Marks.{Markable, Marks};
 
-use crate::{Marked, Measured};
+use crate::Measured;
 use bind_fits::column_mark;
 use catalogue_lookup::find_column;
 use image_bound::columns::column_ref_len;
@@ -25,21 +24,15 @@ use image_expression::text;
 use rules::{Class, ExpressionType, Mark, Refusal};
 use text_numbers::integer_literal;
 
-pub fn refuse(class: Class) -> Marked
-    ensures { result ≡ refused_with class }
-{
-    Marked::Refused(Refusal { class })
-}
-
 // A leaf is one node.
-fn one_leaf(mark: Mark, content: usize) -> Marked
+fn one_leaf(mark: Mark, content: usize) -> Measured
     requires { content < 2 ^ 32 }
-    ensures { result ≡ marked.Is (run (content + 11) mark) }
+    ensures { result ≡ run (content + 11) mark }
 {
-    Marked::Is(Measured {
+    Measured {
         mark,
         size: content + NODE,
-    })
+    }
 }
 
 // The bytes that a literal of this type holds, where n are those of its text.
@@ -55,37 +48,39 @@ fn literal_len(ty: ExpressionType, n: usize) -> usize
     }
 }
 
-fn literal(ty: ExpressionType, nullable: bool, n: usize) -> Marked
+fn literal(ty: ExpressionType, nullable: bool, n: usize) -> Measured
     requires { n ≤ 65536 }
-    ensures { (v : Value) → type_of v ≡ ty → text_of v ≡ n → result ≡ leaf_told (literal_leaf v ty nullable) }
+    ensures { (v : Value) → type_of v ≡ ty → text_of v ≡ n → Ok result ≡ leaf_told (literal_leaf v ty nullable) }
 {
     one_leaf(Mark { ty, nullable }, literal_len(ty, n))
 }
 
 // A number, under a minus or not: its text must be one of 64 signed bits.
-pub fn number(s: &[u8], negative: bool) -> Marked
+pub fn number(s: &[u8], negative: bool) -> Result<Measured, Refusal>
     ensures { result ≡ leaf_told (integer_leaf (integer_literal negative s.now)) }
 {
     match integer_literal(s, negative) {
-        Some(_) => literal(ExpressionType::Int, false, 0),
-        None => refuse(Class::SchemaMismatch),
+        Some(_) => Ok(literal(ExpressionType::Int, false, 0)),
+        None => Err(Class::SchemaMismatch.into()),
     }
 }
 
 // A name stands for a column of the table, and the bound leaf holds the name that the table has.
-fn column(t: &[u8], quoted: bool, name: &[u8]) -> Marked
+#[tactic(auto, using(crate::proofs::Looked::column_long, crate::proofs::Looked::column_is, crate::proofs::Looked::column_none))]
+fn column(t: &[u8], quoted: bool, name: &[u8]) -> Result<Measured, Refusal>
     requires { Is table t.now × (length name.now ≤ 128) }
     ensures { (v : TableSchema) → Holds table t.now v
         → result ≡ leaf_told (column_leaf (lookup.column_by_name v (canonical (named quoted name.now)))) }
 {
     match find_column(t, quoted, name) {
-        Some(c) => one_leaf(column_mark(c.ty, c.nullable), column_ref_len(c.name.len())),
-        None => refuse(Class::SchemaMismatch),
+        Some(c) => Ok(one_leaf(column_mark(c.ty, c.nullable), column_ref_len(c.name.len()))),
+        None => Err(Class::SchemaMismatch.into()),
     }
 }
 
 // A leaf by its kind: 0 a name, 1 a quoted one, 2 a number, 3 a string, 4 TRUE, 5 FALSE, 6 NULL, 7 another literal, 8 another expression.
-pub fn leaf(t: &[u8], e: &[u8], i: usize, k: u8) -> Marked
+#[tactic(auto, using(crate::proofs::Places::known, crate::specs::Small::short_text))]
+pub fn leaf(t: &[u8], e: &[u8], i: usize, k: u8) -> Result<Measured, Refusal>
     requires markable { Markable t.now e.now i }
     requires k_value { (k ≡ (node_at e.now i).kind) × (k < 9) }
     ensures { Marks t.now e.now i result }
@@ -94,11 +89,11 @@ pub fn leaf(t: &[u8], e: &[u8], i: usize, k: u8) -> Marked
         0 => column(t, false, text(e, i)),
         1 => column(t, true, text(e, i)),
         2 => number(text(e, i), false),
-        3 => literal(ExpressionType::Text, false, text(e, i).len()),
-        4 => literal(ExpressionType::Bool, false, 0),
-        5 => literal(ExpressionType::Bool, false, 0),
-        6 => literal(ExpressionType::Null, true, 0),
-        7 => refuse(Class::UnsupportedSql),
-        _ => refuse(Class::UnsupportedSql),
+        3 => Ok(literal(ExpressionType::Text, false, text(e, i).len())),
+        4 => Ok(literal(ExpressionType::Bool, false, 0)),
+        5 => Ok(literal(ExpressionType::Bool, false, 0)),
+        6 => Ok(literal(ExpressionType::Null, true, 0)),
+        7 => Err(Class::UnsupportedSql.into()),
+        _ => Err(Class::UnsupportedSql.into()),
     }
 }

@@ -20,24 +20,19 @@ use image_bound::fields::count_len;
 use image_expression::{kind, span, text};
 use leaves::{leaf, number};
 use nodes::{null_test, one_operand, signs_number, two_operands};
+use rules::{Mark, Refusal};
 
-// What an expression is bound to: the mark of its root, and how many bytes its nodes and what its leaves hold take in the bound image. One
-// number, since an answer is copied at each return and only the sum is asked for.
+// What a node is bound to: its mark, and how many bytes its nodes and what its leaves hold take in the bound image. One number, since an answer
+// is copied at each return and only the sum is asked for.
 #[derive(Clone, Copy)]
 pub struct Measured {
-    pub mark: rules::Mark,
+    pub mark: Mark,
     pub size: usize,
-}
-
-#[derive(Clone, Copy)]
-pub enum Marked {
-    Is(Measured),
-    Refused(rules::Refusal),
 }
 
 // The answer of node i, as docs/IMAGES.md numbers the kinds: 9 parentheses, 10 IS NULL, 11 IS NOT NULL, 12 to 15 one operand, from 16 on two.
 #[cycle(mark_mark_binary_mark_null_test_mark_unary)]
-pub fn mark(t: &[u8], e: &[u8], i: usize) -> Marked
+pub fn mark(t: &[u8], e: &[u8], i: usize) -> Result<Measured, Refusal>
     requires { Markable t.now e.now i }
     ensures { Marks t.now e.now i result }
 {
@@ -60,20 +55,18 @@ pub fn mark(t: &[u8], e: &[u8], i: usize) -> Marked
 
 // IS NULL and IS NOT NULL: what the operand's mark is does not matter, but it must have one.
 #[cycle(mark_mark_binary_mark_null_test_mark_unary)]
-fn mark_null_test(t: &[u8], e: &[u8], i: usize, k: u8) -> Marked
+fn mark_null_test(t: &[u8], e: &[u8], i: usize, k: u8) -> Result<Measured, Refusal>
     requires markable { Markable t.now e.now i }
     requires k_value { (k ≡ (node_at e.now i).kind) × ((10 ≤ k) × (k < 12)) }
     ensures { Marks t.now e.now i result }
 {
-    match mark(t, e, i - 1) {
-        Marked::Is(m) => null_test(m),
-        Marked::Refused(r) => Marked::Refused(r),
-    }
+    let m = mark(t, e, i - 1)?;
+    Ok(null_test(m))
 }
 
 // A sign, which makes one literal with a number directly below it, NOT, or another operator.
 #[cycle(mark_mark_binary_mark_null_test_mark_unary)]
-fn mark_unary(t: &[u8], e: &[u8], i: usize, k: u8) -> Marked
+fn mark_unary(t: &[u8], e: &[u8], i: usize, k: u8) -> Result<Measured, Refusal>
     requires markable { Markable t.now e.now i }
     requires k_value { (k ≡ (node_at e.now i).kind) × ((12 ≤ k) × (k < 16)) }
     ensures { Marks t.now e.now i result }
@@ -82,36 +75,30 @@ fn mark_unary(t: &[u8], e: &[u8], i: usize, k: u8) -> Marked
     if signs_number(e, below, k) {
         return number(text(e, below), k == 13);
     }
-    match mark(t, e, below) {
-        Marked::Is(m) => one_operand(k, m),
-        Marked::Refused(r) => Marked::Refused(r),
-    }
+    let m = mark(t, e, below)?;
+    one_operand(k, m)
 }
 
 #[cycle(mark_mark_binary_mark_null_test_mark_unary)]
-fn mark_binary(t: &[u8], e: &[u8], i: usize, k: u8) -> Marked
+fn mark_binary(t: &[u8], e: &[u8], i: usize, k: u8) -> Result<Measured, Refusal>
     requires markable { Markable t.now e.now i }
     requires k_value { (k ≡ (node_at e.now i).kind) × (16 ≤ k) }
     ensures { Marks t.now e.now i result }
 {
     let right = i - 1;
     let left = right - span(e, right);
-    match mark(t, e, left) {
-        Marked::Is(a) => match mark(t, e, right) {
-            Marked::Is(b) => two_operands(k, a, b),
-            Marked::Refused(r) => Marked::Refused(r),
-        },
-        Marked::Refused(r) => Marked::Refused(r),
-    }
+    let a = mark(t, e, left)?;
+    let b = mark(t, e, right)?;
+    two_operands(k, a, b)
 }
 
 // ---- a whole expression
 
+// What an expression is bound to: the mark of its root, and the length of the bound expression's image.
 #[derive(Clone, Copy)]
-pub enum Sized {
-    // the mark, and the length of the bound expression's image
-    Is(rules::Mark, usize),
-    Refused(rules::Refusal),
+pub struct BoundExpression {
+    pub mark: Mark,
+    pub len: usize,
 }
 
 // The length of the bound expression's image: how many nodes it has stands in front of them.
@@ -123,16 +110,15 @@ fn run_len(m: Measured) -> usize
 }
 
 // The mark of an expression, whose root is its last node, and the length of what it is bound to.
-pub fn expression_size(t: &[u8], e: &[u8]) -> Sized
+pub fn expression_size(t: &[u8], e: &[u8]) -> Result<BoundExpression, Refusal>
     requires { Is table t.now × (Is expression e.now × NamesWithin e.now) }
     ensures { Sizes t.now e.now result }
 {
     let root = image_expression::nodes(e) - 1;
-    match mark(t, e, root) {
-        Marked::Is(m) => {
-            let mark = m.mark;
-            Sized::Is(mark, run_len(m))
-        }
-        Marked::Refused(r) => Sized::Refused(r),
-    }
+    let m = mark(t, e, root)?;
+    let mark = m.mark;
+    Ok(BoundExpression {
+        mark,
+        len: run_len(m),
+    })
 }

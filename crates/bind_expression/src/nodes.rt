@@ -3,24 +3,14 @@ ghost use Rattle.std.specs.Prelude.{◌≡◌, ◌&&◌, ◌<◌, ◌≤◌, ltb
 ghost use Rattle.image_expression.specs.Place.{node_at, un_of, bin_of, HasNode};
 ghost use Rattle.rules.specs.Marking.{unary_rule, binary_rule};
 ghost use Rattle.rules.specs.Statements as statements;
-ghost use Rattle.bind_expression.specs.Told.{ruled, null_told, over_one, over_two};
+ghost use Rattle.bind_expression.specs.Told.{null_told, over_one, over_two};
 ghost use Rattle.bind_expression.specs.Small.{Small};
 
-use crate::leaves::refuse;
-use crate::{Marked, Measured};
-use bind_operators::{Entry, Ruling, result, unary};
+use crate::Measured;
+use bind_operators::{result, unary};
 use image_bound::nodes::NODE;
 use image_expression::kind;
-use rules::{BoundBinaryOperator, BoundUnaryOperator, Class, ExpressionType, Mark};
-
-fn judge(v: Ruling, size: usize) -> Marked
-    ensures { result ≡ ruled size v }
-{
-    match v {
-        Ruling::Fine(mark) => Marked::Is(Measured { mark, size }),
-        Ruling::Flaw(class) => refuse(class),
-    }
-}
+use rules::{BoundBinaryOperator, BoundUnaryOperator, Class, ExpressionType, Mark, Refusal};
 
 // Whether an operator of kind k over node j is a sign directly over a number.
 pub fn signs_number(e: &[u8], j: usize, k: u8) -> bool
@@ -33,32 +23,36 @@ pub fn signs_number(e: &[u8], j: usize, k: u8) -> bool
     kind(e, j) == 2
 }
 
-pub fn null_test(m: Measured) -> Marked
+pub fn null_test(m: Measured) -> Measured
     requires { Small m }
-    ensures { result ≡ null_told m }
+    ensures { Ok result ≡ null_told m }
 {
-    Marked::Is(Measured {
+    Measured {
         mark: Mark {
             ty: ExpressionType::Bool,
             nullable: false,
         },
         size: m.size + NODE,
-    })
+    }
 }
 
 // 12 is +, 13 -, 14 NOT, 15 another operator.
-pub fn one_operand(k: u8, m: Measured) -> Marked
+#[tactic(auto, using(crate::proofs::Told::ruled_ok, crate::proofs::Told::ruled_err), unfolding(image_expression::specs::Place::un_of, rules::specs::Marking::unary_rule))]
+pub fn one_operand(k: u8, m: Measured) -> Result<Measured, Refusal>
     requires { ((12 ≤ k) × (k < 16)) × Small m }
     ensures { result ≡ over_one (unary_rule (un_of k)) m }
 {
-    let mark = m.mark;
-    let size = m.size + NODE;
-    match k {
-        12 => judge(unary(BoundUnaryOperator::Positive, mark), size),
-        13 => judge(unary(BoundUnaryOperator::Negative, mark), size),
-        14 => judge(unary(BoundUnaryOperator::Not, mark), size),
-        _ => refuse(Class::UnsupportedSql),
-    }
+    let operator = match k {
+        12 => BoundUnaryOperator::Positive,
+        13 => BoundUnaryOperator::Negative,
+        14 => BoundUnaryOperator::Not,
+        _ => return Err(Class::UnsupportedSql.into()),
+    };
+    let mark = unary(operator, m.mark)?;
+    Ok(Measured {
+        mark,
+        size: m.size + NODE,
+    })
 }
 
 fn operator(k: u8) -> BoundBinaryOperator
@@ -83,27 +77,24 @@ fn operator(k: u8) -> BoundBinaryOperator
 }
 
 // 29 is an operator that is none of the 13.
-pub fn two_operands(k: u8, a: Measured, b: Measured) -> Marked
+#[tactic(auto, using(crate::proofs::Told::typed_told, crate::proofs::Told::flaw_told), unfolding(image_expression::specs::Place::bin_of, rules::specs::Marking::binary_rule))]
+pub fn two_operands(k: u8, a: Measured, b: Measured) -> Result<Measured, Refusal>
     requires { ((16 ≤ k) × (k < 30)) × (Small a × Small b) }
     ensures { result ≡ over_two (binary_rule (bin_of k)) a b }
 {
     if k == 29 {
-        return refuse(Class::UnsupportedSql);
+        return Err(Class::UnsupportedSql.into());
     }
     let left = a.mark;
     let right = b.mark;
     let size = a.size + b.size + NODE;
-    let x = left.ty;
-    let y = right.ty;
+    let ty = result(operator(k), left.ty, right.ty)?;
     // the value may be null if either operand may
-    match result(operator(k), x, y) {
-        Entry::Type(ty) => Marked::Is(Measured {
-            mark: Mark {
-                ty,
-                nullable: left.nullable || right.nullable,
-            },
-            size,
-        }),
-        Entry::Flaw(class) => refuse(class),
-    }
+    Ok(Measured {
+        mark: Mark {
+            ty,
+            nullable: left.nullable || right.nullable,
+        },
+        size,
+    })
 }

@@ -2,6 +2,7 @@
 -- `mark` below i, so that the measure is 2i for them and 2i + 1 for `mark`. What each node's answer is made of is in `Steps`.
 use mathlib.Core.Path.{◌∙◌, refl, sym}
 use native.Mathlib.Omega.{arith}
+use Rattle.std.proofs.lemmas.Result.{err_from_is_err_and}
 use Rattle.bind_expression.specs.Small.{small}
 use Rattle.bind_expression.proofs.Places.{known, last, first, kinds}
 use Rattle.bind_expression.proofs.Steps.{literal_says, parens_says, null_says, operator_says, left_says, bin_says}
@@ -67,8 +68,8 @@ pub mark_binary-mark-requires : goal.mark_binary-mark-requires
 mark_binary-mark-requires t c =
     let l = first c.type_inv.e c.requires.markable _ c.requires.k_value.0 c.requires.k_value.1 _ c.span.ensures in (omega (arith, l.0), l.1)
 
-pub mark_binary-mark-requires-in-Is : goal.mark_binary-mark-requires-in-Is
-mark_binary-mark-requires-in-Is t c =
+pub mark_binary-mark-requires-2 : goal.mark_binary-mark-requires-2
+mark_binary-mark-requires-2 t c =
     let o = last c.type_inv.e c.requires.markable _ c.requires.k_value.0 (omega arith) in (omega (arith, o.0), o.1)
 
 pub mark_binary-two_operands-requires : goal.mark_binary-two_operands-requires
@@ -77,20 +78,22 @@ mark_binary-two_operands-requires t c =
     let l = first b c.requires.markable _ c.requires.k_value.0 c.requires.k_value.1 _ c.span.ensures in
     let o = last b c.requires.markable _ c.requires.k_value.0 (omega arith) in (
       (c.requires.k_value.1, kinds b c.requires.markable _ c.requires.k_value.0),
-      (small (known b) l.1 c.mark.ensures c.in-Is.is, small (known b) o.1 c.mark-in-Is.ensures c.in-Is-mark.is),
+      (small (known b) l.1 c.mark.ensures c.in_ok-a.was, small (known b) o.1 c.mark-2.ensures c.in_ok-b.was),
     )
 
-pub mark_binary-returns-in-Is-mark : goal.mark_binary-returns-in-Is-mark
-mark_binary-returns-in-Is-mark t c =
-    bin_says c.args.t.now c.args.e.now c.args.i _ c.requires.k_value.0 _ c.requires.k_value.1 _ c.span.ensures _ c.mark.ensures _ c.in-Is.is _ c.mark-in-Is.ensures (rw c.in-Is-mark.is c.two_operands.ensures)
+pub mark_binary-returns : goal.mark_binary-returns
+mark_binary-returns t c =
+    bin_says c.args.t.now c.args.e.now c.args.i _ c.requires.k_value.0 _ c.requires.k_value.1 _ c.span.ensures _ c.mark.ensures _ c.in_ok-a.was _ c.mark-2.ensures (rw c.in_ok-b.was c.two_operands.ensures)
 
-pub mark_binary-returns-in-Refused-mark : goal.mark_binary-returns-in-Refused-mark
-mark_binary-returns-in-Refused-mark t c =
-    bin_says c.args.t.now c.args.e.now c.args.i _ c.requires.k_value.0 _ c.requires.k_value.1 _ c.span.ensures _ c.mark.ensures _ c.in-Is.is _ c.mark-in-Is.ensures (rw c.in-Refused-mark.is)
+pub mark_binary-returns-in_err-b : goal.mark_binary-returns-in_err-b
+mark_binary-returns-in_err-b t c =
+    let p = err_from_is_err_and c.from_residual-in_err-b.result c.from_residual-in_err-b.ensures.1 in
+    rw (p.1, p.2) (bin_says c.args.t.now c.args.e.now c.args.i _ c.requires.k_value.0 _ c.requires.k_value.1 _ c.span.ensures _ c.mark.ensures _ c.in_ok-a.was _ c.mark-2.ensures (rw c.in_err-b.was))
 
-pub mark_binary-returns-in-Refused : goal.mark_binary-returns-in-Refused
-mark_binary-returns-in-Refused t c =
-    left_says c.args.t.now c.args.e.now c.args.i _ c.requires.k_value.0 _ c.requires.k_value.1 _ c.span.ensures _ c.mark.ensures _ c.in-Refused.is refl
+pub mark_binary-returns-in_err-a : goal.mark_binary-returns-in_err-a
+mark_binary-returns-in_err-a t c =
+    let p = err_from_is_err_and c.from_residual.result c.from_residual.ensures.1 in
+    rw (p.1, p.2) (left_says c.args.t.now c.args.e.now c.args.i _ c.requires.k_value.0 _ c.requires.k_value.1 _ c.span.ensures _ c.mark.ensures _ c.in_err-a.was refl)
 
 pub mark_null_test-overflow_sub-i : goal.mark_null_test-overflow_sub-i
 mark_null_test-overflow_sub-i t c =
@@ -103,15 +106,16 @@ mark_null_test-mark-requires t c =
 pub mark_null_test-null_test-requires : goal.mark_null_test-null_test-requires
 mark_null_test-null_test-requires t c =
     let b = c.type_inv.e in
-    small (known b) (last b c.requires.markable _ c.requires.k_value.0 (omega arith)).1 c.mark.ensures c.in-Is.is
+    small (known b) (last b c.requires.markable _ c.requires.k_value.0 (omega arith)).1 c.mark.ensures c.in_ok-m.was
 
-pub mark_null_test-returns-in-Is : goal.mark_null_test-returns-in-Is
-mark_null_test-returns-in-Is t c =
-    null_says c.args.t.now c.args.e.now c.args.i _ c.requires.k_value.0 _ c.requires.k_value.1.0 c.requires.k_value.1.1 _ c.mark.ensures (rw c.in-Is.is c.null_test.ensures)
+pub mark_null_test-returns : goal.mark_null_test-returns
+mark_null_test-returns t c =
+    null_says c.args.t.now c.args.e.now c.args.i _ c.requires.k_value.0 _ c.requires.k_value.1.0 c.requires.k_value.1.1 _ c.mark.ensures (rw c.in_ok-m.was c.null_test.ensures)
 
-pub mark_null_test-returns-in-Refused : goal.mark_null_test-returns-in-Refused
-mark_null_test-returns-in-Refused t c =
-    null_says c.args.t.now c.args.e.now c.args.i _ c.requires.k_value.0 _ c.requires.k_value.1.0 c.requires.k_value.1.1 _ c.mark.ensures (rw c.in-Refused.is)
+pub mark_null_test-returns-in_err-m : goal.mark_null_test-returns-in_err-m
+mark_null_test-returns-in_err-m t c =
+    let p = err_from_is_err_and c.from_residual.result c.from_residual.ensures.1 in
+    rw (p.1, p.2) (null_says c.args.t.now c.args.e.now c.args.i _ c.requires.k_value.0 _ c.requires.k_value.1.0 c.requires.k_value.1.1 _ c.mark.ensures (rw c.in_err-m.was))
 
 pub mark_unary-overflow_sub-below : goal.mark_unary-overflow_sub-below
 mark_unary-overflow_sub-below t c =
@@ -136,12 +140,13 @@ mark_unary-mark-requires t c =
 pub mark_unary-one_operand-requires : goal.mark_unary-one_operand-requires
 mark_unary-one_operand-requires t c =
     let b = c.type_inv.e in
-    (c.requires.k_value.1, small (known b) (last b c.requires.markable _ c.requires.k_value.0 (omega arith)).1 c.mark.ensures c.in-Is.is)
+    (c.requires.k_value.1, small (known b) (last b c.requires.markable _ c.requires.k_value.0 (omega arith)).1 c.mark.ensures c.in_ok-m.was)
 
-pub mark_unary-returns-in-Is : goal.mark_unary-returns-in-Is
-mark_unary-returns-in-Is t c =
-    operator_says c.args.t.now c.args.e.now c.args.i _ c.requires.k_value.0 _ c.requires.k_value.1.0 c.requires.k_value.1.1 (sym c.signs_number.ensures ∙ c.if-signs_number.false) _ c.mark.ensures (rw c.in-Is.is c.one_operand.ensures)
+pub mark_unary-returns : goal.mark_unary-returns
+mark_unary-returns t c =
+    operator_says c.args.t.now c.args.e.now c.args.i _ c.requires.k_value.0 _ c.requires.k_value.1.0 c.requires.k_value.1.1 (sym c.signs_number.ensures ∙ c.if-signs_number.false) _ c.mark.ensures (rw c.in_ok-m.was c.one_operand.ensures)
 
-pub mark_unary-returns-in-Refused : goal.mark_unary-returns-in-Refused
-mark_unary-returns-in-Refused t c =
-    operator_says c.args.t.now c.args.e.now c.args.i _ c.requires.k_value.0 _ c.requires.k_value.1.0 c.requires.k_value.1.1 (sym c.signs_number.ensures ∙ c.if-signs_number.false) _ c.mark.ensures (rw c.in-Refused.is)
+pub mark_unary-returns-in_err-m : goal.mark_unary-returns-in_err-m
+mark_unary-returns-in_err-m t c =
+    let p = err_from_is_err_and c.from_residual.result c.from_residual.ensures.1 in
+    rw (p.1, p.2) (operator_says c.args.t.now c.args.e.now c.args.i _ c.requires.k_value.0 _ c.requires.k_value.1.0 c.requires.k_value.1.1 (sym c.signs_number.ensures ∙ c.if-signs_number.false) _ c.mark.ensures (rw c.in_err-m.was))

@@ -2,32 +2,14 @@
 use mathlib.Core.Path.{◌≡◌, refl, sym, ap}
 use mathlib.Core.Bool.{true, false}
 use Prim.Native.Nat.{◌≤◌}
-use native.Mathlib.Omega.{arith}
 use lib.ListN.{length}
+use Rattle.std.specs.Prelude.{Err}
 use Rattle.rules.specs.Bound.{Value}
 use Rattle.rules.specs.Marking.{leaf_rule}
 use Rattle.image_expression.specs.Place.{node_at, leaf_of}
-use Rattle.bind_expression.specs.Small.{short_text}
 use Rattle.bind_expression.proofs.Arms.{past, least, only}
-use Rattle.bind_expression.proofs.Places.{known}
 use Rattle.bind_expression.proofs.Steps.{leaf_says}
 use Rattle.bind_expression.proofs.leaves.leaf.Goals as goal
-
-pub column-requires : goal.column-requires
-column-requires c =
-    let a = c.args in
-    let p = c.requires in
-    (p.markable.table, rw c.text.ensures (p.markable.names.short a.i p.markable.node.within (omega (arith, p.k_value.0, c.in-0.is))))
-
-pub column-requires-in-1 : goal.column-requires-in-1
-column-requires-in-1 c =
-    let a = c.args in
-    let p = c.requires in
-    (p.markable.table, rw c.text-in-1.ensures (p.markable.names.short a.i p.markable.node.within (omega (arith, p.k_value.0, c.in-1.is))))
-
-pub literal-requires : goal.literal-requires
-literal-requires c =
-    omega (arith, ap length c.text-in-3.ensures, short_text (known c.type_inv.e) c.requires.markable.node)
 
 pub returns-in-0 : goal.returns-in-0
 unfolding leaf_of leaf_rule
@@ -84,7 +66,7 @@ unfolding leaf_of leaf_rule
 returns-in-7 c =
     let a = c.args in
     let p = c.requires in
-    leaf_says a.t.now a.e.now a.i a.k p.k_value.0 _ p.k_value.1 (λ v h. rw c.in-7.is c.refuse.ensures)
+    leaf_says a.t.now a.e.now a.i a.k p.k_value.0 _ p.k_value.1 (λ v h. rw c.in-7.is (ap Err c.into.ensures))
 
 pub returns-in_default : goal.returns-in_default
 unfolding leaf_of leaf_rule
@@ -94,4 +76,4 @@ returns-in_default c =
     let n = c.in_default.in_default-own.rest in
     let lo : 8 ≤ a.k = past (past (past (past (past (past (past (past (least a.k) n.0.0.0.0.0.0.0.1) n.0.0.0.0.0.0.1) n.0.0.0.0.0.1) n.0.0.0.0.1) n.0.0.0.1) n.0.0.1) n.0.1) n.1 in
     let z : a.k ≡ 8 = only lo p.k_value.1 in
-    leaf_says a.t.now a.e.now a.i a.k p.k_value.0 _ p.k_value.1 (λ v h. rw z c.refuse-in_default.ensures)
+    leaf_says a.t.now a.e.now a.i a.k p.k_value.0 _ p.k_value.1 (λ v h. rw z (ap Err c.into-in_default.ensures))
