@@ -10,3 +10,4 @@ pub mod Values
 pub mod Cases
 pub mod Held
 pub mod Looks
+pub mod Chains
