@@ -1,4 +1,7 @@
 pub mod Bundle
+pub mod Contents
+pub mod Left
+pub mod Ahead
 pub mod Decides
 pub mod Laws
 pub mod Fields
@@ -7,3 +10,4 @@ pub mod Values
 pub mod Cases
 pub mod Held
 pub mod Looks
+pub mod Chains
