@@ -1,6 +1,6 @@
 -- What a value that was worked out stands for, and what is heard of one that may be a fault.
 -- Assumes nothing.
-use Rattle.std.specs.Prelude.{◌≡◌, refl, ℕ, Option as Answer, Some, None}
+use Rattle.std.specs.Prelude.{◌≡◌, refl, ℕ, length, Option as Answer, Some, None}
 use Rattle.std.proofs.Math.Option.{Option, none, some}
 use Rattle.bytes_format.specs.Ways.{next}
 use Rattle.rules.specs.declared.Ordinal.{Ordinal}
@@ -26,6 +26,17 @@ value_of worth.Null = Value.null
 value_of (worth.Int z) = Value.int z
 value_of (worth.Bool b) = Value.bool b
 value_of (worth.Text s) = Value.text s.now
+
+-- how many bytes of text it has
+abbrev pub text_size : Worth → ℕ
+text_size worth.Null = 0
+text_size (worth.Int z) = 0
+text_size (worth.Bool b) = 0
+text_size (worth.Text s) = length s.now
+
+abbrev pub text_size_of : Answer Worth → ℕ
+text_size_of None = 0
+text_size_of (Some w) = text_size w
 
 abbrev pub ordinal : ℕ → Ordinal
 ordinal n = record { 0 = n }

@@ -9,7 +9,7 @@ mod singles;
 ghost use Rattle.std.specs.Prelude.{◌≡◌, ◌≤◌, ◌<◌};
 ghost use Rattle.image_expression.specs.Place.{un_of, bin_of};
 ghost use Rattle.rules.specs.Evaluate.{unary_value, binary_value};
-ghost use Rattle.run_values.specs.Worths.{told, heard, value_of};
+ghost use Rattle.run_values.specs.Worths.{told, heard, value_of, text_size_of};
 
 // A text is a part of the row or of the statement: no byte of it is copied.
 #[derive(Clone, Copy)]
@@ -24,7 +24,8 @@ pub enum Worth<'a> {
 #[tactic(auto, unfolding(image_expression::specs::Place::un_of, rules::specs::Evaluate::unary_value))]
 pub fn one_operand<'a>(k: u8, w: Worth<'a>) -> Option<Worth<'a>>
     requires { (10 ≤ k) × (k < 16) }
-    ensures { heard value_of result ≡ told (unary_value (un_of k) (value_of w.entry)) }
+    ensures value { heard value_of result ≡ told (unary_value (un_of k) (value_of w.entry)) }
+    ensures plain { text_size_of result ≡ 0 }
 {
     match k {
         10 => Some(Worth::Bool(singles::is_null(w))),
@@ -40,8 +41,9 @@ pub fn one_operand<'a>(k: u8, w: Worth<'a>) -> Option<Worth<'a>>
 #[tactic(auto, unfolding(image_expression::specs::Place::bin_of, rules::specs::Evaluate::binary_value))]
 pub fn two_operands<'a>(k: u8, a: Worth<'a>, b: Worth<'a>) -> Option<Worth<'a>>
     requires { (16 ≤ k) × (k < 30) }
-    ensures { heard value_of result
+    ensures value { heard value_of result
         ≡ told (binary_value (bin_of k) (value_of a.entry) (value_of b.entry)) }
+    ensures plain { text_size_of result ≡ 0 }
 {
     if k == 29 {
         return None;

@@ -4,7 +4,7 @@ ghost use Rattle.image_expression.specs.Place.{bin_of};
 ghost use Rattle.rules.specs.Bound.{Value};
 ghost use Rattle.rules.specs.Evaluate.{binary_value};
 ghost use Rattle.run_values.specs.Orders.{Ordered};
-ghost use Rattle.run_values.specs.Worths.{told, heard, value_of};
+ghost use Rattle.run_values.specs.Worths.{told, heard, value_of, text_size_of};
 
 use crate::Worth;
 use crate::orders::{compared, int_order};
@@ -27,7 +27,8 @@ fn arithmetic(k: u8, m: i64, n: i64) -> Option<i64>
 // From 21 on the kinds are comparisons.
 pub fn ints<'a>(k: u8, m: i64, n: i64) -> Option<Worth<'a>>
     requires { (16 ≤ k) × (k < 29) }
-    ensures { heard value_of result ≡ told (binary_value (bin_of k) (Value.int m) (Value.int n)) }
+    ensures value { heard value_of result ≡ told (binary_value (bin_of k) (Value.int m) (Value.int n)) }
+    ensures plain { text_size_of result ≡ 0 }
 {
     if k < 21 {
         return Some(Worth::Int(arithmetic(k, m, n)?));

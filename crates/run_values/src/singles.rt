@@ -3,7 +3,7 @@ ghost use Rattle.std.specs.Prelude.{◌≡◌};
 ghost use Rattle.rules.specs.declared.BoundUnaryOperator.TheVariants.{Positive, Negative, Not};
 ghost use Rattle.rules.specs.Evaluate.{is_null, unary_value};
 ghost use Rattle.rules.specs.Statements.{unary};
-ghost use Rattle.run_values.specs.Worths.{told, heard, value_of};
+ghost use Rattle.run_values.specs.Worths.{told, heard, value_of, text_size_of};
 
 use crate::Worth;
 
@@ -14,7 +14,8 @@ pub fn is_null(w: Worth) -> bool
 }
 
 pub fn plus<'a>(w: Worth<'a>) -> Option<Worth<'a>>
-    ensures { heard value_of result ≡ told (unary_value (unary Positive) (value_of w.entry)) }
+    ensures value { heard value_of result ≡ told (unary_value (unary Positive) (value_of w.entry)) }
+    ensures plain { text_size_of result ≡ 0 }
 {
     match w {
         Worth::Null => Some(Worth::Null),
@@ -24,7 +25,8 @@ pub fn plus<'a>(w: Worth<'a>) -> Option<Worth<'a>>
 }
 
 pub fn minus<'a>(w: Worth<'a>) -> Option<Worth<'a>>
-    ensures { heard value_of result ≡ told (unary_value (unary Negative) (value_of w.entry)) }
+    ensures value { heard value_of result ≡ told (unary_value (unary Negative) (value_of w.entry)) }
+    ensures plain { text_size_of result ≡ 0 }
 {
     match w {
         Worth::Null => Some(Worth::Null),
@@ -34,7 +36,8 @@ pub fn minus<'a>(w: Worth<'a>) -> Option<Worth<'a>>
 }
 
 pub fn not<'a>(w: Worth<'a>) -> Option<Worth<'a>>
-    ensures { heard value_of result ≡ told (unary_value (unary Not) (value_of w.entry)) }
+    ensures value { heard value_of result ≡ told (unary_value (unary Not) (value_of w.entry)) }
+    ensures plain { text_size_of result ≡ 0 }
 {
     match w {
         Worth::Null => Some(Worth::Null),
