@@ -1,6 +1,6 @@
 -- What a value of a VALUES list is, told by the kinds of its nodes.
 -- Assumes nothing.
-use Rattle.std.specs.Prelude.{◌≡◌, Bool, true, false, List, ℕ, zero, suc, ◌-◌, ◌≤◌, ◌<◌, eqb, ℤ, length, get_or}
+use Rattle.std.specs.Prelude.{◌≡◌, Bool, true, false, List, ℕ, zero, suc, ◌-◌, ◌≤◌, ◌<◌, eqb, ℤ, length, get_or, Some, None}
 use Rattle.std.proofs.Math.Path.{refl, sym, ap, ap₂}
 use Rattle.std.proofs.Common.{◌∙◌, arith, lit<, Fits}
 use Rattle.std.proofs.Math.Option.{Option, none, some}
@@ -18,7 +18,6 @@ use Rattle.rules.specs.Statements.{Leaf, Unary, parentheses, null_test, unary, o
 use Rattle.rules.specs.Numbers.{integer_literal}
 use Rattle.rules.specs.Marking.{sign, leaf_number, number_in, together, signed_number}
 use Rattle.rules.specs.Analyze.{integer, insert_leaf, insert_signed, insert_literal}
-use Rattle.text_numbers.specs.declared.Literal.TheVariants as literal
 use Rattle.text_numbers.specs.Literal.{told}
 use Rattle.image_expression.specs.Expression.{expression}
 use Rattle.image_expression.specs.Place.{Node, node_count, node_at, leaf_kind, leaf_of, un_kind, behind, top, Root, IsImage, HasNode}
@@ -163,11 +162,11 @@ pub last_node : {e : List ℕ} → Bytes e → Is expression e → HasNode e (no
 last_node b i = record { image = image i; within = omega (arith, some_node b (image i)) }
 
 -- a number as the code reads it
-pub integer_is : (o : Option ℤ) {z : ℤ} → told o ≡ literal.Value z → integer o ≡ given (Value.int z)
+pub integer_is : (o : Option ℤ) {z : ℤ} → told o ≡ Some z → integer o ≡ given (Value.int z)
 integer_is (some y) h = cc
 integer_is none h = absurd (let n : ◌≡◌ {A = ℕ} 0 1 = cc in omega arith)
 
-pub integer_bad : (o : Option ℤ) → told o ≡ literal.Bad → integer o ≡ refuse SchemaMismatch
+pub integer_bad : (o : Option ℤ) → told o ≡ None → integer o ≡ refuse SchemaMismatch
 integer_bad (some y) h = absurd (let n : ◌≡◌ {A = ℕ} 0 1 = cc in omega arith)
 integer_bad none h = refl
 

@@ -13,7 +13,7 @@ ghost use Rattle.bind_literal.specs.Scalars.{value_of, refused_with, text_in, Te
 
 use image_expression::{kind, nodes, text};
 use rules::{Class, Refusal};
-use text_numbers::{Literal, integer_literal};
+use text_numbers::integer_literal;
 
 // A text lies in the expression's image: `text_of` lends it.
 #[derive(Clone, Copy)]
@@ -36,8 +36,8 @@ fn integer(s: &[u8], negative: bool) -> Scalar
     ensures { (t : Text) → analyze.integer (integer_literal negative s.now) ≡ value_of t result }
 {
     match integer_literal(s, negative) {
-        Literal::Value(z) => Scalar::Int(z),
-        Literal::Bad => refuse(Class::SchemaMismatch),
+        Some(z) => Scalar::Int(z),
+        None => refuse(Class::SchemaMismatch),
     }
 }
 

@@ -9,6 +9,8 @@ use Rattle.std.specs.Ordering.{int_cmp}
 use Rattle.std.specs.Int.Signed.{lt_z, le_z}
 use Rattle.rules.specs.Bound.{Value}
 use Rattle.rules.specs.Evaluate.{equal, less}
+use Rattle.rules.specs.Lists.{Text}
+use Rattle.text_order.specs.Order.{order_of, told_same, told_less, told_more}
 use Rattle.run_values.specs.Orders.{Ordered}
 
 -- one is at most the other, or else is the greater
@@ -60,3 +62,14 @@ ints_ordered a b = go (lt_z a b) refl (lt_z b a) refl
       left = refl;
       right = refl;
     }
+
+pub texts_ordered : (a b : Text) → Ordered (Value.text a) (Value.text b) (order_of a b)
+unfolding equal less
+texts_ordered a b = record {
+  alike = ap some (told_same a b);
+  below = ap some (told_less a b);
+  above = ap some (told_more a b);
+  no_bool = refl;
+  left = refl;
+  right = refl;
+}

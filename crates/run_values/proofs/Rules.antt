@@ -1,6 +1,6 @@
 -- What the value rules say of the operators' kinds.
 -- Assumes nothing.
-use Rattle.std.specs.Prelude.{◌≡◌, Bool, not, ◌&&◌, ◌||◌, ℕ, suc, ◌≤◌, ◌<◌, ℤ, List}
+use Rattle.std.specs.Prelude.{◌≡◌, Bool, ◌&&◌, ◌||◌, ℕ, ◌≤◌, ◌<◌, ℤ, List}
 use Rattle.std.specs.Bool.{beq}
 use Rattle.std.specs.Borrow.{Bor}
 use Rattle.std.proofs.Common.{refl, sym, ap, ◌∙◌, arith}
@@ -12,7 +12,7 @@ use Rattle.rules.specs.declared.BoundBinaryOperator.{BoundBinaryOperator}
 use Rattle.rules.specs.declared.BoundBinaryOperator.TheVariants as op
 use Rattle.rules.specs.Bound.{Value}
 use Rattle.rules.specs.Lists.{Text}
-use Rattle.rules.specs.Evaluate.{Worked, no_rule, as_bool, is_null, two, arithmetic, equal, less, truth, opposite, same_bool, operate, binary_value}
+use Rattle.rules.specs.Evaluate.{no_rule, as_bool, is_null, two, arithmetic, equal, less, truth, opposite, same_bool, operate, binary_value}
 use Rattle.rules.specs.Statements.{Binary, binary, other_binary}
 use Rattle.run_values.specs.declared.Worth.{Worth}
 use Rattle.run_values.specs.declared.Worth.TheVariants as worth

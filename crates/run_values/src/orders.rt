@@ -24,9 +24,3 @@ pub fn compared(k: u8, o: Ordering) -> Option<bool>
         _ => None,
     }
 }
-
-pub fn int_order(a: i64, b: i64) -> Ordering
-    ensures { Ordered (Value.int a) (Value.int b) result }
-{
-    a.cmp(&b)
-}

@@ -3,11 +3,10 @@ ghost use Rattle.std.specs.Prelude.{◌≡◌, ◌≤◌, ◌<◌};
 ghost use Rattle.image_expression.specs.Place.{bin_of};
 ghost use Rattle.rules.specs.Bound.{Value};
 ghost use Rattle.rules.specs.Evaluate.{binary_value};
-ghost use Rattle.run_values.specs.Orders.{Ordered};
 ghost use Rattle.run_values.specs.Worths.{told, heard, value_of, text_size_of};
 
 use crate::Worth;
-use crate::orders::{compared, int_order};
+use crate::orders::compared;
 
 // 16 is +, 17 -, 18 *, 19 /, 20 %.
 #[tactic(auto, unfolding(image_expression::specs::Place::bin_of, rules::specs::Evaluate::binary_value, rules::specs::Evaluate::operate, rules::specs::Evaluate::arithmetic))]
@@ -25,6 +24,7 @@ fn arithmetic(k: u8, m: i64, n: i64) -> Option<i64>
 }
 
 // From 21 on the kinds are comparisons.
+#[tactic(auto, using(crate::proofs::Compared::ints_ordered))]
 pub fn ints<'a>(k: u8, m: i64, n: i64) -> Option<Worth<'a>>
     requires { (16 ≤ k) × (k < 29) }
     ensures value { heard value_of result ≡ told (binary_value (bin_of k) (Value.int m) (Value.int n)) }
@@ -33,7 +33,7 @@ pub fn ints<'a>(k: u8, m: i64, n: i64) -> Option<Worth<'a>>
     if k < 21 {
         return Some(Worth::Int(arithmetic(k, m, n)?));
     }
-    Some(Worth::Bool(compared(k, int_order(m, n))?))
+    Some(Worth::Bool(compared(k, m.cmp(&n))?))
 }
 
 // = and <>, AND and OR. Of two truth values none comes first.
@@ -51,18 +51,8 @@ pub fn bools(k: u8, m: bool, n: bool) -> Option<bool>
     }
 }
 
-#[tactic(auto, unfolding(text_order::specs::Order::order_of))]
-fn compare(a: &[u8], b: &[u8]) -> std::cmp::Ordering
-    ensures { Ordered (Value.text a.now) (Value.text b.now) result }
-{
-    match text_order::compare(a, b) {
-        text_order::Order::Less => std::cmp::Ordering::Less,
-        text_order::Order::Same => std::cmp::Ordering::Equal,
-        text_order::Order::More => std::cmp::Ordering::Greater,
-    }
-}
-
 // TEXT is only compared.
+#[tactic(auto, using(crate::proofs::Compared::texts_ordered, crate::proofs::Rules::texts_none))]
 pub fn texts(k: u8, a: &[u8], b: &[u8]) -> Option<bool>
     requires { (16 ≤ k) × (k < 29) }
     ensures { heard Value.bool result ≡ told (binary_value (bin_of k) (Value.text a.now) (Value.text b.now)) }
@@ -70,5 +60,5 @@ pub fn texts(k: u8, a: &[u8], b: &[u8]) -> Option<bool>
     if k < 21 {
         return None;
     }
-    compared(k, compare(a, b))
+    compared(k, text_order::compare(a, b))
 }

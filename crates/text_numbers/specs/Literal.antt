@@ -1,15 +1,13 @@
 -- What the rules say of number text, in the words of this crate.
 -- Assumes nothing: these are definitions.
-use Rattle.std.specs.Prelude.{Bool, ℤ}
+use Rattle.std.specs.Prelude.{Bool, ℤ, Option as Answer, Some, None}
 use Rattle.std.proofs.Math.Option.{Option, none, some}
 use Rattle.rules.specs.Lists.{Text}
 use Rattle.rules.specs.Numbers.{unsigned_text, ranged}
-use Rattle.text_numbers.specs.declared.Literal.{Literal}
-use Rattle.text_numbers.specs.declared.Literal.TheVariants.{Value, Bad}
 
-abbrev pub told : Option ℤ → Literal
-told (some z) = Value z
-told none = Bad
+abbrev pub told : Option ℤ → Answer ℤ
+told (some z) = Some z
+told none = None
 
 -- the same of a text that is digits alone, with its sign given
 abbrev pub in_range_of : Option ℤ → Option ℤ

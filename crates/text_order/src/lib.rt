@@ -4,32 +4,12 @@
 ghost use Rattle.std.specs.Prelude.{◌≡◌};
 ghost use Rattle.text_order.specs.Order.{order_of};
 
-#[derive(Clone, Copy)]
-pub enum Order {
-    Less,
-    Same,
-    More,
-}
+use std::cmp::Ordering;
 
 // How the first text stands to the second.
-pub fn compare(a: &[u8], b: &[u8]) -> Order
+#[tactic(auto, using(crate::specs::Order::told_cmp))]
+pub fn compare(a: &[u8], b: &[u8]) -> Ordering
     ensures { result ≡ order_of a.now b.now }
 {
-    let mut i = 0;
-    while i < a.len() {
-        if b.len() <= i {
-            return Order::More;
-        }
-        if a[i] < b[i] {
-            return Order::Less;
-        }
-        if b[i] < a[i] {
-            return Order::More;
-        }
-        i += 1;
-    }
-    if i < b.len() {
-        return Order::Less;
-    }
-    Order::Same
+    a.cmp(b)
 }

@@ -1,4 +1,5 @@
 -- `bind_literal::integer` meets its contract.
+use Rattle.std.proofs.Common.{rules}
 use mathlib.Core.Path.{sym, ap, ◌∙◌}
 use mir.Syntax.{w64}
 use mir.Val.{SFits}
@@ -7,14 +8,14 @@ use Rattle.rules.specs.Numbers.{integer_literal}
 use Rattle.bind_literal.specs.Scalars.{value_of, integer_is, integer_bad}
 use Rattle.bind_literal.proofs.integer.Goals as goal
 
-pub returns-in-Value : goal.returns-in-Value
-returns-in-Value c =
+pub returns-in-Some : goal.returns-in-Some
+returns-in-Some c =
     let a = c.args in
-    let fits : SFits w64 c.in-Value.z = record { sfits = c.in-Value.known_told-1-own.given.0.1 } in
-    λ t. rw (to_z-of_z fits) (integer_is (integer_literal a.negative a.s.now) (sym c.integer_literal.ensures ∙ c.in-Value.is))
+    let fits : SFits w64 c.in-Some.z = search rules in
+    λ t. rw (to_z-of_z fits) (integer_is (integer_literal a.negative a.s.now) (sym c.integer_literal.ensures ∙ c.in-Some.is))
 
-pub returns-in-Bad : goal.returns-in-Bad
-returns-in-Bad c =
+pub returns-in-None : goal.returns-in-None
+returns-in-None c =
     let a = c.args in
-    λ t. integer_bad (integer_literal a.negative a.s.now) (sym c.integer_literal.ensures ∙ c.in-Bad.is)
+    λ t. integer_bad (integer_literal a.negative a.s.now) (sym c.integer_literal.ensures ∙ c.in-None.is)
     ∙ sym (ap (value_of t) c.refuse.ensures)
