@@ -1,6 +1,6 @@
 // What working out an expression comes to, and what the operators make of one or two of them. What is a fault, and what has no rule, comes to
 // None.
-#![tactic(auto, unfolding(rules::specs::Evaluate::unary_value))]
+#![tactic(auto)]
 
 mod orders;
 mod pairs;

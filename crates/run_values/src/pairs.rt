@@ -37,7 +37,7 @@ pub fn ints<'a>(k: u8, m: i64, n: i64) -> Option<Worth<'a>>
 }
 
 // = and <>, AND and OR. Of two truth values none comes first.
-#[tactic(auto, using(crate::proofs::Rules::same_bool_lem, crate::proofs::Rules::bools_none), unfolding(image_expression::specs::Place::bin_of, rules::specs::Evaluate::binary_value, rules::specs::Evaluate::operate, rules::specs::Evaluate::equal))]
+#[tactic(auto, using(crate::proofs::Rules::same_bool_lem), unfolding(image_expression::specs::Place::bin_of, rules::specs::Evaluate::binary_value, rules::specs::Evaluate::operate, rules::specs::Evaluate::equal))]
 pub fn bools(k: u8, m: bool, n: bool) -> Option<bool>
     requires { (16 ≤ k) × (k < 29) }
     ensures { heard Value.bool result ≡ told (binary_value (bin_of k) (Value.bool m) (Value.bool n)) }

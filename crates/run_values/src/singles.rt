@@ -13,6 +13,7 @@ pub fn is_null(w: Worth) -> bool
     matches!(w, Worth::Null)
 }
 
+#[tactic(auto, unfolding(rules::specs::Evaluate::unary_value))]
 pub fn plus<'a>(w: Worth<'a>) -> Option<Worth<'a>>
     ensures value { heard value_of result ≡ told (unary_value (unary Positive) (value_of w.entry)) }
     ensures plain { text_size_of result ≡ 0 }
@@ -24,6 +25,7 @@ pub fn plus<'a>(w: Worth<'a>) -> Option<Worth<'a>>
     }
 }
 
+#[tactic(auto, unfolding(rules::specs::Evaluate::unary_value))]
 pub fn minus<'a>(w: Worth<'a>) -> Option<Worth<'a>>
     ensures value { heard value_of result ≡ told (unary_value (unary Negative) (value_of w.entry)) }
     ensures plain { text_size_of result ≡ 0 }
@@ -35,6 +37,7 @@ pub fn minus<'a>(w: Worth<'a>) -> Option<Worth<'a>>
     }
 }
 
+#[tactic(auto, unfolding(rules::specs::Evaluate::unary_value))]
 pub fn not<'a>(w: Worth<'a>) -> Option<Worth<'a>>
     ensures value { heard value_of result ≡ told (unary_value (unary Not) (value_of w.entry)) }
     ensures plain { text_size_of result ≡ 0 }
