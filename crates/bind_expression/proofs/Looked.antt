@@ -3,6 +3,7 @@
 use mathlib.Core.Path.{◌≡◌, refl, sym, ap, ap₂, subst, ◌∙◌}
 use mathlib.Core.Bool.{Bool, false}
 use mathlib.Core.List.{List}
+use Rattle.std.proofs.Common.{Some, None}
 use mathlib.Core.Option.{Option, none, some}
 use Prim.Native.Nat.{ℕ, ◌+◌, ◌-◌, ◌≤◌}
 use native.Mathlib.Omega.{arith}
@@ -19,7 +20,6 @@ use Rattle.rules.specs.Names.{canonical}
 use Rattle.rules.specs.Marking.{column_leaf, integer_leaf, literal_leaf}
 use Rattle.rules.specs.Statements.{Name}
 use Rattle.rules.specs.Tables.{TableSchema}
-use Rattle.text_numbers.specs.declared.Literal.TheVariants as number
 use Rattle.text_numbers.specs.Literal as literal
 use Rattle.catalogue_lookup.specs.declared.Column.{Column}
 use Rattle.catalogue_lookup.specs.declared.Named.{Named}
@@ -52,12 +52,12 @@ literal_length r f v e q = go v (rw (e, q) f)
     go (Value.bool b) g = g b
     go Value.null g = g
 
-pub number_is : (o : Option ℤ) (z : ℤ) → literal.told o ≡ number.Value z → {r : Marked}
+pub number_is : (o : Option ℤ) (z : ℤ) → literal.told o ≡ Some z → {r : Marked}
     → ((v : Value) → type_of v ≡ type.Int → text_of v ≡ 0 → r ≡ leaf_told (literal_leaf v type.Int false)) → r ≡ leaf_told (integer_leaf o)
 number_is (some y) z h f = f (Value.int y) refl refl
 number_is none z h f = absurd (let n : ◌≡◌ {A = ℕ} 0 1 = cc in omega arith)
 
-pub number_bad : (o : Option ℤ) → literal.told o ≡ number.Bad → refused_with SchemaMismatch ≡ leaf_told (integer_leaf o)
+pub number_bad : (o : Option ℤ) → literal.told o ≡ None → refused_with SchemaMismatch ≡ leaf_told (integer_leaf o)
 number_bad (some y) h = absurd (let n : ◌≡◌ {A = ℕ} 0 1 = cc in omega arith)
 number_bad none h = refl
 

@@ -23,7 +23,7 @@ use image_bound::nodes::NODE;
 use image_bound::values::{bool_len, int_len, null_len, text_len};
 use image_expression::text;
 use rules::{Class, ExpressionType, Mark, Refusal};
-use text_numbers::{Literal, integer_literal};
+use text_numbers::integer_literal;
 
 pub fn refuse(class: Class) -> Marked
     ensures { result ≡ refused_with class }
@@ -67,8 +67,8 @@ pub fn number(s: &[u8], negative: bool) -> Marked
     ensures { result ≡ leaf_told (integer_leaf (integer_literal negative s.now)) }
 {
     match integer_literal(s, negative) {
-        Literal::Value(_) => literal(ExpressionType::Int, false, 0),
-        Literal::Bad => refuse(Class::SchemaMismatch),
+        Some(_) => literal(ExpressionType::Int, false, 0),
+        None => refuse(Class::SchemaMismatch),
     }
 }
 

@@ -6,27 +6,12 @@ ghost use Rattle.rules.specs.Lists.{same};
 ghost use Rattle.rules.specs.Names.{fold, canonical, beyond_ascii};
 ghost use Rattle.text_names.specs.Compared.{named, compared_byte, agreeing};
 
-// A to Z become a to z. Other letters stay as they are: number 8 refuses unquoted names that have some.
-fn fold(b: u8) -> u8
-    ensures { result ≡ fold b }
-{
-    if b < b'A' {
-        return b;
-    }
-    if b'Z' < b {
-        return b;
-    }
-    b + 32
-}
-
-// A byte of a name as it is compared.
+// A byte of a name as it is compared: A to Z become a to z where it is not quoted. Other letters stay as they are: number 8 refuses unquoted names
+// that have some.
 fn compared_byte(quoted: bool, b: u8) -> u8
     ensures { result ≡ compared_byte quoted b }
 {
-    if quoted {
-        return b;
-    }
-    fold(b)
+    if quoted { b } else { b.to_ascii_lowercase() }
 }
 
 // Whether two texts agree, with the bytes of each taken as in a quoted name or as in an unquoted one. From the last byte back: names that stand
@@ -34,48 +19,33 @@ fn compared_byte(quoted: bool, b: u8) -> u8
 fn agree(q1: bool, a: &[u8], q2: bool, b: &[u8]) -> bool
     ensures { result ≡ agreeing q1 q2 a.now b.now }
 {
-    if a.len() != b.len() {
-        return false;
-    }
-    let mut i = a.len();
-    while 0 < i {
-        i -= 1;
-        if compared_byte(q1, a[i]) != compared_byte(q2, b[i]) {
-            return false;
-        }
-    }
-    true
+    a.len() == b.len()
+        && a.iter()
+            .rev()
+            .zip(b.iter().rev())
+            .all(|(x, y)| compared_byte(q1, *x) == compared_byte(q2, *y))
 }
 
 // Byte for byte.
 pub fn same(a: &[u8], b: &[u8]) -> bool
     ensures { result ≡ same a.now b.now }
 {
-    agree(true, a, true, b)
+    a == b
 }
 
 // The same but for ASCII case.
 pub fn same_but_case(a: &[u8], b: &[u8]) -> bool
     ensures { result ≡ same (map fold a.now) (map fold b.now) }
 {
-    agree(false, a, false, b)
+    a.eq_ignore_ascii_case(b)
 }
 
 // Number 8: an unquoted name with a byte of 128 or more.
+#[tactic(auto, using(crate::proofs::Laws::some_beyond), unfolding(rules::specs::Names::beyond_ascii))]
 pub fn beyond_ascii(quoted: bool, s: &[u8]) -> bool
     ensures { result ≡ beyond_ascii (named quoted s.now) }
 {
-    if quoted {
-        return false;
-    }
-    let mut i = 0;
-    while i < s.len() {
-        if 128 <= s[i] {
-            return true;
-        }
-        i += 1;
-    }
-    false
+    !quoted && !s.is_ascii()
 }
 
 // A name as it is compared, at the front of the room that the longest one takes.
@@ -84,28 +54,25 @@ pub fn compared(quoted: bool, name: &[u8]) -> [u8; 128]
     ensures { take (length name.now) result ≡ canonical (named quoted name.now) }
 {
     let mut room = [0u8; 128];
-    let mut i = 0;
-    while i < name.len() {
-        room[i] = compared_byte(quoted, name[i]);
-        i += 1;
+    let front = &mut room[..name.len()];
+    front.copy_from_slice(name);
+    if !quoted {
+        front.make_ascii_lowercase();
     }
     room
 }
 
 // Whether a name of the statement is one of the catalogue, whose names are compared as they are.
+#[tactic(auto, using(crate::proofs::Laws::agree_called))]
 pub fn is_called(quoted: bool, name: &[u8], other: &[u8]) -> bool
     requires { length name.now ≤ 128 }
     ensures { result ≡ same (canonical (named quoted name.now)) other.now }
 {
-    if name.len() != other.len() {
-        return false;
-    }
-    let room = compared(quoted, name);
-    let n = name.len();
-    same(&room[..n], other)
+    agree(quoted, name, true, other)
 }
 
 // Whether two names of the statement are one.
+#[tactic(auto, using(crate::proofs::Laws::agree_names))]
 pub fn are_same_name(q1: bool, n1: &[u8], q2: bool, n2: &[u8]) -> bool
     requires { (length n1.now ≤ 128) × (length n2.now ≤ 128) }
     ensures { result ≡ same (canonical (named q1 n1.now)) (canonical (named q2 n2.now)) }

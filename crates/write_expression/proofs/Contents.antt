@@ -3,6 +3,7 @@
 use mathlib.Core.Path.{◌≡◌, refl, sym, ap, subst, ◌∙◌}
 use mathlib.Core.Bool.{Bool, true, false}
 use mathlib.Core.List.{List, [], ◌∷◌}
+use Rattle.std.proofs.Common.{Some, None}
 use mathlib.Core.Option.{Option, none, some, some-injective}
 use Prim.Native.Nat.{ℕ, suc, ◌+◌, ◌-◌, ◌≤◌, ◌<◌}
 use native.Mathlib.Decide.{dec_lt}
@@ -26,7 +27,6 @@ use Rattle.rules.specs.Numbers.{integer_literal}
 use Rattle.rules.specs.Tables.{ColumnSchema, TableSchema}
 use Rattle.rules.proofs.Theorems.Answered.{never_fine, never_some}
 use Rattle.text_names.specs.Compared.{named}
-use Rattle.text_numbers.specs.declared.Literal.TheVariants as number
 use Rattle.text_numbers.specs.Literal as literal
 use Rattle.catalogue_lookup.specs.declared.Column.{Column}
 use Rattle.catalogue_lookup.specs.declared.Named.{Named}
@@ -59,16 +59,16 @@ module _ (P : Marked BoundLeaf → Type 0) (x : Value) (ty : ExpressionType) (n 
 
 -- ---- numbers
 
-number_is : (o : Option ℤ) (z : ℤ) → literal.told o ≡ number.Value z → literal_leaf (int z) type.Int false ≡ integer_leaf o
+number_is : (o : Option ℤ) (z : ℤ) → literal.told o ≡ Some z → literal_leaf (int z) type.Int false ≡ integer_leaf o
 number_is (some y) z h = ap (λ (w : ℤ). literal_leaf (int w) type.Int false) (cc)
 number_is none z h = absurd (let n : ◌≡◌ {A = ℕ} 0 1 = cc in omega arith)
 
-number_bad : (o : Option ℤ) (l : Marked BoundLeaf) → literal.told o ≡ number.Bad → integer_leaf o ≡ fine l → ⊥
+number_bad : (o : Option ℤ) (l : Marked BoundLeaf) → literal.told o ≡ None → integer_leaf o ≡ fine l → ⊥
 number_bad (some y) l h f = let n : ◌≡◌ {A = ℕ} 0 1 = cc in omega arith
 number_bad none l h f = never_fine f
 
 module _ (negative : Bool) (s : Text) where
-  module _ (z : ℤ) (e : literal.told (integer_literal negative s) ≡ number.Value z) where
+  module _ (z : ℤ) (e : literal.told (integer_literal negative s) ≡ Some z) where
     kept : (l : Marked BoundLeaf) → Numbered negative s l → literal_leaf (int z) type.Int false ≡ fine l
     kept l p = number_is (integer_literal negative s) z e ∙ p
 
@@ -78,7 +78,7 @@ module _ (negative : Bool) (s : Text) where
     pub number_puts : {o o' : List ℕ} {at end : ℕ} {r : Leaf} → r ≡ literal_at type.Int false end → Wrote o at (value.write (int z)) end o' → Puts (Numbered negative s) o at r o'
     number_puts = literal_puts (Numbered negative s) (int z) type.Int false kept
 
-  pub number_never : {o : List ℕ} {at : ℕ} → literal.told (integer_literal negative s) ≡ number.Bad → LeafRoom (Numbered negative s) o at → ⊥
+  pub number_never : {o : List ℕ} {at : ℕ} → literal.told (integer_literal negative s) ≡ None → LeafRoom (Numbered negative s) o at → ⊥
   number_never h r = number_bad (integer_literal negative s) r.label h r.rule
 
 -- ---- columns

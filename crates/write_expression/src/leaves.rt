@@ -15,7 +15,7 @@ use image_bound::values::{put_bool, put_int, put_null, put_text};
 use image_catalogue::table_id;
 use image_expression::text;
 use rules::ExpressionType;
-use text_numbers::{Literal, integer_literal};
+use text_numbers::integer_literal;
 
 fn literal(ty: ExpressionType, nullable: bool, end: usize) -> Leaf
     ensures { result ≡ literal_at ty nullable end }
@@ -34,9 +34,9 @@ pub fn put_number(s: &[u8], negative: bool, out: &mut [u8], at: usize) -> Leaf
     ensures { Puts (Numbered negative s.now) out.old at result out.new }
 {
     match integer_literal(s, negative) {
-        Literal::Value(z) => literal(ExpressionType::Int, false, put_int(out, at, z)),
+        Some(z) => literal(ExpressionType::Int, false, put_int(out, at, z)),
         // never: the rule is kept
-        Literal::Bad => literal(ExpressionType::Null, true, at),
+        None => literal(ExpressionType::Null, true, at),
     }
 }
 

@@ -1,21 +1,19 @@
--- `text_names::compared` meets its contract. The invariant: the front of the room is the front of the name, as it is compared.
-use mathlib.Core.Path.{refl}
-use native.Mathlib.Omega.{arith}
-use Rattle.text_names.proofs.Laws.{made_more, made_whole}
-use borrow.Author.Rules.{rules}
+-- `text_names::compared` meets its contract.
+use Rattle.std.proofs.Common.{map, ap, ◌∙◌, rules}
+use Rattle.std.specs.Char.{to_ascii_lowercase}
+use Rattle.std.proofs.lemmas.List.{take_at}
+use Rattle.text_names.proofs.Laws.{kept, folded}
 use Rattle.text_names.proofs.compared.Goals as goal
 
-pub loop-i-init : goal.loop-i-init
-loop-i-init c = (search rules, search rules, refl)
+pub returns-then-not-quoted : goal.returns-then-not-quoted
+returns-then-not-quoted c =
+    take_at c.make_ascii_lowercase.new.self _ _ (search rules)
+    ∙ c.make_ascii_lowercase.ensures.after
+    ∙ ap (map to_ascii_lowercase) c.copy_from_slice.ensures.after
+    ∙ folded c.args.quoted c.args.name.now (search rules)
 
-pub loop-i-preserved : goal.loop-i-preserved
-loop-i-preserved c =
-    let s = c.args.name.now in (
-      search rules,
-      search rules,
-      made_more _ s c.loop-i.room c.loop-i.i _ (omega arith) (omega arith) c.compared_byte.ensures c.loop-i.invariant.2,
-    )
-
-pub returns : goal.returns
-returns c =
-    made_whole _ c.args.name.now c.loop-i.room c.loop-i.i c.loop-i.invariant.0 c.loop-i-test.false c.loop-i.invariant.2
+pub returns-else-not-quoted : goal.returns-else-not-quoted
+returns-else-not-quoted c =
+    take_at c.copy_from_slice.new.self _ _ (search rules)
+    ∙ c.copy_from_slice.ensures.after
+    ∙ kept c.args.quoted c.args.name.now (search rules)
