@@ -2,11 +2,10 @@
 -- Assumes nothing.
 use mathlib.Core.Path.{◌≡◌, refl, ap, subst, ◌∙◌}
 use mathlib.Core.List.{List}
-use mathlib.Core.Option.{none, some}
 use Prim.Native.Nat.{ℕ, ◌<◌}
 use native.Mathlib.Omega.{arith}
 use lib.ListN.{length}
-use Rattle.bytes_bundle.specs.Held.{Is, Holds, held}
+use Rattle.bytes_bundle.specs.Held.{Is, held}
 use Rattle.catalogue_lookup.specs.declared.Column.{Column}
 use Rattle.catalogue_lookup.specs.declared.Named.{Named}
 use Rattle.catalogue_lookup.specs.declared.Named.TheVariants as named
@@ -14,15 +13,12 @@ use Rattle.image_catalogue.specs.Layout.{table}
 use Rattle.catalogue_lookup.specs.Finds.{ColumnIs, FindsColumn}
 use Rattle.image_row.specs.Obeyed.{obeyed_at}
 use Rattle.rules.specs.declared.Ordinal.{Ordinal}
-use Rattle.rules.specs.Bound.{Value, BoundColumnRef}
-use Rattle.rules.specs.Evaluate.{at, column_value}
+use Rattle.rules.specs.Bound.{BoundColumnRef}
 use Rattle.rules.specs.Lists.{Text}
 use Rattle.rules.specs.Lookup.{bound_column, column_by_name}
-use Rattle.rules.specs.Rows.{Row}
 use Rattle.rules.specs.Tables.{ColumnSchema, TableSchema}
 use Rattle.rules.proofs.Theorems.Values as values
 use Rattle.rules.proofs.Theorems.Values.{column_of_lem}
-use Rattle.run_values.specs.Worths.{ordinal, told}
 use Rattle.run_expression.specs.Works.{ObeysTable, StandsAt}
 
 -- ---- columns
@@ -47,12 +43,3 @@ module _ (t r : List ℕ) (n : Text) {q : Named} (found : FindsColumn t n q) whe
         let l : c.ordinal.0 < length v.columns = omega (arith, within d.stands) in
         let a = obeyed_at v r c.ordinal.0 (o.obeys v h) l in
         record { image = a.0; there = a.1 })
-
-    pub column_says : (v : TableSchema) → Holds table t v → (x : Row) {w : Value}
-        → w ≡ at x (ordinal c.ordinal.0) → some w ≡ told (column_value x (column_by_name v n))
-    column_says v h x e =
-        let k = subst (ColumnIs t (column_by_name v n)) p (found v h) in
-        rw k.1 (ap some (e ∙ ap (at x) k.2.ordinal))
-
-  pub column_none : q ≡ named.Nothing → (v : TableSchema) → Holds table t v → (x : Row) → none ≡ told (column_value x (column_by_name v n))
-  column_none p v h x = let k = subst (ColumnIs t (column_by_name v n)) p (found v h) in rw k

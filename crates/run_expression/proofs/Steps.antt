@@ -1,32 +1,31 @@
 -- One step of working out: what the operands come to makes what a node comes to, by the node's kind k.
 -- Assumes nothing.
-use mathlib.Core.Path.{◌≡◌, ◌∙◌, refl, sym, ap, ap₂, subst}
-use mathlib.Core.Bool.{Bool, true, false, cond, ◌&&◌, ◌||◌, true≢false}
+use mathlib.Core.Path.{◌≡◌, ◌∙◌, refl, sym, ap, ap₂}
+use mathlib.Core.Bool.{Bool, true, false, ◌&&◌, true≢false}
 use mathlib.Core.List.{List}
 use mathlib.Core.Option.{Option, some, none}
 use Prim.Native.Nat.{ℕ, ◌-◌, ◌<◌, ◌≤◌}
 use native.Mathlib.Omega.{arith}
 use Rattle.std.specs.Prelude.{Option as Answer, Some, None}
 use lib.Dec.{leb, ltb, eqb, lit<}
-use borrow.Author.Tests.{lt-ltb, leb-true, leb-false, ltb-true, ltb-false, eqb-true, eqb-false}
+use borrow.Author.Tests.{leb-true, leb-false, ltb-true, ltb-false, eqb-true, eqb-false}
 use Rattle.bytes_wire.specs.Le.{Bytes}
 use Rattle.tree.specs.Tree.{leaf, un, bin}
 use Rattle.bytes_bundle.specs.Decides.{and_of}
-use Rattle.bytes_bundle.specs.Held.{Holds, held}
+use Rattle.bytes_bundle.specs.Held.{Holds}
 use Rattle.image_catalogue.specs.Layout.{table}
 use Rattle.image_expression.specs.Place.{Node, node_count, node_at, leaf_kind, leaf_of, un_kind, un_of, bin_of, top, Root}
 use Rattle.image_expression.specs.Heads.{un_kind_lem}
 use Rattle.image_expression.specs.Trees.{kind_of}
-use Rattle.image_expression.specs.Laws.{placed, every_node, leaf_at, un_at, bin_at}
+use Rattle.image_expression.specs.Laws.{placed, leaf_at, un_at, bin_at}
 use Rattle.image_row.specs.Layout.{row}
-use Rattle.rules.specs.declared.BoundUnaryOperator.TheVariants.{Positive, Negative, Not}
 use Rattle.rules.specs.Bound.{Value}
 use Rattle.rules.specs.Evaluate.{Worked, worked, fault, no_rule, then, literal_value, leaf_value, unary_value, binary_value, evaluate}
 use Rattle.rules.specs.Lists.{Text}
 use Rattle.rules.specs.Marking.{sign, leaf_number, number_in, together, signed_number}
-use Rattle.rules.specs.Numbers.{integer_literal, sum, difference, product, quotient, remainder, negation}
+use Rattle.rules.specs.Numbers.{integer_literal}
 use Rattle.rules.specs.Rows.{Row}
-use Rattle.rules.specs.Statements.{Leaf, Unary, parentheses, null_test, unary, other_unary, Binary, binary, other_binary, Expr}
+use Rattle.rules.specs.Statements.{Leaf, parentheses, Expr}
 use Rattle.rules.specs.Tables.{TableSchema}
 use Rattle.run_values.specs.declared.Worth.{Worth}
 use Rattle.run_values.specs.Worths.{told, heard, value_of, told_then}
