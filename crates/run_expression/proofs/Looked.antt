@@ -2,44 +2,24 @@
 -- Assumes nothing.
 use mathlib.Core.Path.{◌≡◌, refl, ap, subst, ◌∙◌}
 use mathlib.Core.List.{List}
-use Rattle.std.proofs.Common.{Some, None}
-use mathlib.Core.Option.{Option, none, some}
 use Prim.Native.Nat.{ℕ, ◌<◌}
 use native.Mathlib.Omega.{arith}
-use lib.IntN.{ℤ}
 use lib.ListN.{length}
-use Rattle.bytes_bundle.specs.Held.{Is, Holds, held}
+use Rattle.bytes_bundle.specs.Held.{Is, held}
 use Rattle.catalogue_lookup.specs.declared.Column.{Column}
 use Rattle.catalogue_lookup.specs.declared.Named.{Named}
 use Rattle.catalogue_lookup.specs.declared.Named.TheVariants as named
 use Rattle.image_catalogue.specs.Layout.{table}
 use Rattle.catalogue_lookup.specs.Finds.{ColumnIs, FindsColumn}
-use Rattle.text_numbers.specs.Literal as literal
 use Rattle.image_row.specs.Obeyed.{obeyed_at}
 use Rattle.rules.specs.declared.Ordinal.{Ordinal}
 use Rattle.rules.specs.Bound.{BoundColumnRef}
-use Rattle.rules.specs.Evaluate.{at, column_value, literal_value}
 use Rattle.rules.specs.Lists.{Text}
 use Rattle.rules.specs.Lookup.{bound_column, column_by_name}
-use Rattle.rules.specs.Rows.{Row}
 use Rattle.rules.specs.Tables.{ColumnSchema, TableSchema}
 use Rattle.rules.proofs.Theorems.Values as values
 use Rattle.rules.proofs.Theorems.Values.{column_of_lem}
-use Rattle.run_values.specs.declared.Worth.{Worth}
-use Rattle.run_values.specs.declared.Worth.TheVariants as worth
-use Rattle.run_values.specs.Worths.{ordinal, told, plainly}
-use Rattle.run_expression.specs.Works.{ObeysTable, StandsAt, Says}
-use Rattle.run_expression.proofs.Stored.{says_fault}
-
--- ---- numbers
-
-pub number_is : (o : Option ℤ) {z : ℤ} → literal.told o ≡ Some z → worth.Int z ≡ plainly (told (literal_value o))
-number_is (some y) h = cc
-number_is none h = absurd (let n : ◌≡◌ {A = ℕ} 0 1 = cc in omega arith)
-
-pub number_bad : (o : Option ℤ) → literal.told o ≡ None → worth.Fault ≡ plainly (told (literal_value o))
-number_bad (some y) h = absurd (let n : ◌≡◌ {A = ℕ} 0 1 = cc in omega arith)
-number_bad none h = refl
+use Rattle.run_expression.specs.Works.{ObeysTable, StandsAt}
 
 -- ---- columns
 
@@ -63,12 +43,3 @@ module _ (t r : List ℕ) (n : Text) {q : Named} (found : FindsColumn t n q) whe
         let l : c.ordinal.0 < length v.columns = omega (arith, within d.stands) in
         let a = obeyed_at v r c.ordinal.0 (o.obeys v h) l in
         record { image = a.0; there = a.1 })
-
-    pub column_says : (v : TableSchema) → Holds table t v → (x : Row) (e : List ℕ) {w : Worth}
-        → Says x e w (some (at x (ordinal c.ordinal.0))) → Says x e w (told (column_value x (column_by_name v n)))
-    column_says v h x e {w} s =
-        let k = subst (ColumnIs t (column_by_name v n)) p (found v h) in
-        rw k.1 (subst (λ (z : Ordinal). Says x e w (some (at x z))) k.2.ordinal s)
-
-  pub column_none : q ≡ named.Nothing → (v : TableSchema) → Holds table t v → (x : Row) (e : List ℕ) → Says x e worth.Fault (told (column_value x (column_by_name v n)))
-  column_none p v h x e = let k = subst (ColumnIs t (column_by_name v n)) p (found v h) in rw k (says_fault x e)

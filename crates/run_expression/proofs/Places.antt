@@ -14,8 +14,7 @@ use Rattle.image_expression.specs.Laws.{is_image, some_node, last_operand, first
 use Rattle.bytes_bundle.specs.Held.{Is, held}
 use Rattle.image_catalogue.specs.Layout.{table}
 use Rattle.bind_expression.specs.Marks.{NamesWithin}
-use Rattle.run_values.specs.Worths.{Images}
-use Rattle.run_expression.specs.Works.{ObeysTable, Workable, obeys_row}
+use Rattle.run_expression.specs.Works.{ObeysTable, Workable}
 
 -- what a slice's rule says of its elements
 pub known : {s : List ℕ} → ((j : ℕ) → Fits w8 (get_or s j 0)) → Bytes s
@@ -29,9 +28,6 @@ root b p n is =
     (omega arith, record { table = p.0; names = p.1.0.1; node = record { image = i; within = omega arith }; row = p.1.1 })
 
 module _ {t e r : List ℕ} {i : ℕ} (m : Workable t e i r) where
-  pub images : Images r e
-  images = record { row = obeys_row m.table m.row; expression = m.node.image }
-
   module _ (b : (j : ℕ) → Fits w8 (get_or e j 0)) (k : ℕ) (is : k ≡ (node_at e i).kind) where
     pub last : 9 ≤ k → (1 ≤ i) × Workable t e (i - 1) r
     last lo = let o = last_operand (known b) m.node k is lo in (o.0, record { table = m.table; names = m.names; node = o.1; row = m.row })

@@ -1,7 +1,6 @@
 -- What `evaluate` and `value` ask for, and what they answer.
 -- Assumes nothing.
-use Rattle.std.specs.Prelude.{◌≡◌, true, List, ℕ, ◌<◌, length}
-use Rattle.std.proofs.Math.Option.{Option}
+use Rattle.std.specs.Prelude.{◌≡◌, true, List, ℕ, ◌<◌, length, Option as Answer}
 use Rattle.bytes_bundle.specs.Held.{Is, Holds, held, is_held}
 use Rattle.image_catalogue.specs.Layout.{table}
 use Rattle.image_expression.specs.Expression.{expression}
@@ -9,13 +8,12 @@ use Rattle.image_expression.specs.Place.{node_at, Root, HasNode}
 use Rattle.bind_expression.specs.Marks.{NamesWithin}
 use Rattle.image_row.specs.Layout.{row}
 use Rattle.image_row.specs.Obeyed.{obeyed, obeyed_row}
-use Rattle.rules.specs.Bound.{Value}
 use Rattle.rules.specs.Evaluate.{evaluate}
 use Rattle.rules.specs.Rows.{Row}
 use Rattle.rules.specs.Statements.{Expr}
 use Rattle.rules.specs.Tables.{TableSchema}
 use Rattle.run_values.specs.declared.Worth.{Worth}
-use Rattle.run_values.specs.Worths.{told, value_of, Sound}
+use Rattle.run_values.specs.Worths.{told, heard, value_of}
 
 -- r is a row that obeys the table t
 pub record ObeysTable (t r : List ℕ) : Type 0 where
@@ -28,19 +26,14 @@ pub record Workable (t e : List ℕ) (i : ℕ) (r : List ℕ) : Type 0 where
   pub node : HasNode e i
   pub row : ObeysTable t r
 
--- w stands for o, and is a fault where there is no value
-pub record Says (x : Row) (e : List ℕ) (w : Worth) (o : Option Value) : Type 0 where
-  pub value : value_of x e w ≡ o
-  pub sound : Sound x e w
-
 -- w is what the tree at node i comes to over the row
-abbrev pub Works : List ℕ → List ℕ → ℕ → List ℕ → Worth → Type 0
+abbrev pub Works : List ℕ → List ℕ → ℕ → List ℕ → Answer Worth → Type 0
 Works t e i r w =
-    (v : TableSchema) → Holds table t v → (x : Row) → Holds row r x → (a : Expr) → Root (node_at e) i a → Says x e w (told (evaluate v x a))
+    (v : TableSchema) → Holds table t v → (x : Row) → Holds row r x → (a : Expr) → Root (node_at e) i a → heard value_of w ≡ told (evaluate v x a)
 
 -- w is what the expression comes to over the row
-abbrev pub Comes : List ℕ → List ℕ → List ℕ → Worth → Type 0
-Comes t e r w = (v : TableSchema) → Holds table t v → (x : Row) → Holds row r x → (a : Expr) → Holds expression e a → Says x e w (told (evaluate v x a))
+abbrev pub Comes : List ℕ → List ℕ → List ℕ → Answer Worth → Type 0
+Comes t e r w = (v : TableSchema) → Holds table t v → (x : Row) → Holds row r x → (a : Expr) → Holds expression e a → heard value_of w ≡ told (evaluate v x a)
 
 -- the row has a value at the position
 pub record StandsAt (r : List ℕ) (n : ℕ) : Type 0 where

@@ -1,3 +1,2 @@
-pub mod Arms
-pub mod Ranges
-pub mod Places
+pub mod Rules
+pub mod Compared

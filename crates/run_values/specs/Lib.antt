@@ -1,3 +1,2 @@
 pub mod Worths
 pub mod Orders
-pub mod Rules

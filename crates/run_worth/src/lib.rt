@@ -1,72 +1,45 @@
 // What working out comes to, as a value of a row's image: how long it is, and its bytes.
 #![tactic(auto)]
 
-ghost use Rattle.std.specs.Prelude.{◌≡◌, ◌≤◌, length};
-ghost use Rattle.std.proofs.Math.Option.{some};
+ghost use Rattle.std.specs.Prelude.{◌≡◌, ◌+◌, ◌≤◌, ◌<◌, length};
 ghost use Rattle.bytes_wire.specs.Sets.{Wrote};
-ghost use Rattle.bytes_bundle.specs.Held.{Holds};
-ghost use Rattle.image_row.specs.Layout.{row};
-ghost use Rattle.rules.specs.Bound.{Value};
-ghost use Rattle.rules.specs.Rows.{Row};
 ghost use Rattle.image_value.specs.Parts.{value};
-ghost use Rattle.run_values.specs.Worths.{value_of, Images, SoundOver};
-ghost use Rattle.run_worth.specs.Written.{is_fault, truth_of, Room};
+ghost use Rattle.rules.specs.Evaluate.{is_true};
+ghost use Rattle.run_values.specs.Worths.{value_of, text_size};
 
 use image_bound::values::{bool_len, int_len, null_len, put_bool, put_int, put_null, put_text};
-use run_values::{Worth, text_of};
-
-pub fn is_fault(w: Worth) -> bool
-    ensures { result ≡ is_fault w }
-{
-    match w {
-        Worth::Null => false,
-        Worth::Int(z) => false,
-        Worth::Bool(b) => false,
-        Worth::Text(side, n) => false,
-        Worth::Fault => true,
-    }
-}
+use run_values::Worth;
 
 // Whether a condition that was worked out is TRUE.
 pub fn is_true(w: Worth) -> bool
-    ensures { result ≡ truth_of w }
+    ensures { result ≡ is_true (value_of w.entry) }
 {
-    match w {
-        Worth::Null => false,
-        Worth::Int(z) => false,
-        Worth::Bool(b) => b,
-        Worth::Text(side, n) => false,
-        Worth::Fault => false,
-    }
+    matches!(w, Worth::Bool(true))
 }
 
 // How long the image of a value is. The lengths of a row's values have 4 bytes, so no sum of theirs wraps.
-pub fn worth_len<'a>(r: &'a [u8], e: &'a [u8], w: Worth) -> usize
-    requires { Images r.now e.now × SoundOver r.now e.now w }
-    ensures { (result ≤ 4294967296) × ((x : Row) (v : Value) → Holds row r.now x → value_of x e.now w ≡ some v
-        → result ≡ length (value.write v)) }
+#[tactic(auto, using(image_bound::specs::Spelt::text_length))]
+pub fn worth_len(w: Worth) -> usize
+    ensures bounded { text_size w.entry < 4294967295 → result ≤ 4294967296 }
+    ensures exact { result ≡ length (value.write (value_of w.entry)) }
 {
     match w {
         Worth::Null => null_len(),
-        Worth::Int(z) => int_len(),
-        Worth::Bool(b) => bool_len(),
-        Worth::Text(side, n) => 1 + text_of(r, e, side, n).len(),
-        // never: it stands for a value
-        Worth::Fault => 0,
+        Worth::Int(_) => int_len(),
+        Worth::Bool(_) => bool_len(),
+        Worth::Text(s) => 1 + s.len(),
     }
 }
 
-pub fn put_worth<'a>(out: &mut [u8], at: usize, r: &'a [u8], e: &'a [u8], w: Worth) -> usize
-    requires { (Images r.now e.now × SoundOver r.now e.now w) × Room r.now e.now w out.old at }
-    ensures { (x : Row) (v : Value) → Holds row r.now x → value_of x e.now w ≡ some v
-        → Wrote out.old at (value.write v) result out.new }
+#[tactic(auto, using(image_bound::specs::Spelt::null_length, image_bound::specs::Spelt::int_length, image_bound::specs::Spelt::bool_length, image_bound::specs::Spelt::text_length))]
+pub fn put_worth(out: &mut [u8], at: usize, w: Worth) -> usize
+    requires { at + length (value.write (value_of w)) ≤ length out.old }
+    ensures { Wrote out.old at (value.write (value_of w.entry)) result out.new }
 {
     match w {
         Worth::Null => put_null(out, at),
         Worth::Int(z) => put_int(out, at, z),
         Worth::Bool(b) => put_bool(out, at, b),
-        Worth::Text(side, n) => put_text(out, at, text_of(r, e, side, n)),
-        // never: it stands for a value
-        Worth::Fault => at,
+        Worth::Text(s) => put_text(out, at, s),
     }
 }

@@ -9,5 +9,5 @@ overflow_sub-nodes c = (root (known c.type_inv.e) c.requires _ c.nodes.ensures).
 pub evaluate-requires : goal.evaluate-requires
 evaluate-requires c = (root (known c.type_inv.e) c.requires _ c.nodes.ensures).1
 
-pub returns : goal.returns
-returns c = whole c.args.t.now c.args.e.now c.args.r.now (known c.type_inv.e) _ c.nodes.ensures _ c.evaluate.ensures
+pub returns-clause-comes : goal.returns-clause-comes
+returns-clause-comes c = whole c.args.t.now c.args.e.now c.args.r.now (known c.type_inv.e) _ c.nodes.ensures _ c.evaluate.ensures.works
