@@ -24,8 +24,8 @@ ghost use Rattle.bind_update.specs.Assigned.{assign_to, judge_assignment};
 ghost use Rattle.bind_update.specs.Within.{ShortAssignment, ShortAssignments, Limited};
 ghost use Rattle.bind_update.specs.Updated.{update_table, Sound};
 
-use bind_expression::{Sized, expression_size};
-use bind_fits::{Fit, expression_fit};
+use bind_expression::expression_size;
+use bind_fits::expression_fit;
 use bind_repeats::{Of, first_repeated, is_at};
 use bind_table::{Measured, Resolved, refuse, resolve_direct_table};
 use bind_table_ref::table_size;
@@ -75,11 +75,11 @@ fn value_size(t: &[u8], e: &[u8], ty: DataType, nullable: bool) -> Measured
         → c.ty ≡ ty → c.nullable ≡ nullable → result ≡ sized bound_expression (fitting_value v c x) }
 {
     match expression_size(t, e) {
-        Sized::Is(mark, n) => match expression_fit(mark, ty, nullable) {
-            Fit::Fine => Measured::Is(n),
-            Fit::Flaw(class) => refuse(class),
+        Ok(bound) => match expression_fit(bound.mark, ty, nullable) {
+            Ok(()) => Measured::Is(bound.len),
+            Err(class) => refuse(class),
         },
-        Sized::Refused(r) => Measured::Refused(r),
+        Err(r) => Measured::Refused(r),
     }
 }
 

@@ -12,8 +12,8 @@ ghost use Rattle.rules.specs.Statements.{Expr};
 ghost use Rattle.rules.specs.Tables.{TableSchema};
 ghost use Rattle.bind_where.specs.Short.{ShortExpression, AtMost};
 
-use bind_expression::{Sized, expression_size};
-use bind_fits::{Fit, condition};
+use bind_expression::expression_size;
+use bind_fits::condition;
 use bind_table::{Measured, refuse};
 
 // How long the image of a condition over the table t is, which must be BOOL.
@@ -24,10 +24,10 @@ pub fn filter_size(t: &[u8], e: &[u8]) -> Measured
         → result ≡ sized bound_expression (bind_boolean_filter v x) }
 {
     match expression_size(t, e) {
-        Sized::Is(mark, n) => match condition(mark) {
-            Fit::Fine => Measured::Is(n),
-            Fit::Flaw(class) => refuse(class),
+        Ok(bound) => match condition(bound.mark) {
+            Ok(()) => Measured::Is(bound.len),
+            Err(class) => refuse(class),
         },
-        Sized::Refused(r) => Measured::Refused(r),
+        Err(r) => Measured::Refused(r),
     }
 }

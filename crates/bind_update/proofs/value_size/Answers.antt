@@ -18,29 +18,29 @@ expression_size-requires c =
     let p = c.requires in
     (p.0, (p.1.is, short_names (known c.type_inv.e) p.1))
 
-pub returns-in-Fine : goal.returns-in-Fine
-returns-in-Fine c =
+pub returns-in-Ok-expression_fit : goal.returns-in-Ok-expression_fit
+returns-in-Ok-expression_fit c =
     let p = c.requires in
-    let q = c.in-Is.is in record {
+    let q = c.in-Ok.is in record {
       few = size_few _ _ (known c.type_inv.e) p.0 p.1 c.expression_size.ensures q;
       told = λ v x k hv hx ty null.
           let m = sized_is _ _ hv hx c.expression_size.ensures q in
-          let f : fit (mark_of m.0) k ≡ fine tt = ap (λ (z : Mark). fit z k) m.2 ∙ fit_fine (c.expression_fit.ensures k ty null) c.in-Fine.is in
+          let f : fit (mark_of m.0) k ≡ fine tt = ap (λ (z : Mark). fit z k) m.2 ∙ fit_fine (c.expression_fit.ensures k ty null) c.in-Ok-expression_fit.is in
           sized_given bound_expression (value_on v k x m.1 f) (sym m.3);
     }
 
-pub returns-in-Flaw : goal.returns-in-Flaw
-returns-in-Flaw c = record {
+pub returns-in-Err-expression_fit : goal.returns-in-Err-expression_fit
+returns-in-Err-expression_fit c = record {
   few = at_most_off 4294967295 c.refuse.ensures;
   told = λ v x k hv hx ty null.
-      let m = sized_is _ _ hv hx c.expression_size.ensures c.in-Is.is in
-      let f : fit (mark_of m.0) k ≡ flaw _ = ap (λ (z : Mark). fit z k) m.2 ∙ fit_flaw (c.expression_fit.ensures k ty null) c.in-Flaw.is in
+      let m = sized_is _ _ hv hx c.expression_size.ensures c.in-Ok.is in
+      let f : fit (mark_of m.0) k ≡ flaw _ = ap (λ (z : Mark). fit z k) m.2 ∙ fit_flaw (c.expression_fit.ensures k ty null) c.in-Err-expression_fit.is in
       c.refuse.ensures ∙ steps.sized_refused bound_expression (value_flaw v k x m.1 f);
 }
 
-pub returns-in-Refused : goal.returns-in-Refused
-returns-in-Refused c = record {
+pub returns-in-Err : goal.returns-in-Err
+returns-in-Err c = record {
   few = tt;
   told = λ v x k hv hx ty null.
-      steps.sized_refused bound_expression (value_off v k x (sized_refused _ _ hv hx c.expression_size.ensures c.in-Refused.is));
+      steps.sized_refused bound_expression (value_off v k x (sized_refused _ _ hv hx c.expression_size.ensures c.in-Err.is));
 }

@@ -17,29 +17,29 @@ expression_size-requires c =
     let p = c.requires in
     (p.0, (p.1.is, short_names (known c.type_inv.e) p.1))
 
-pub returns-in-Fine : goal.returns-in-Fine
-returns-in-Fine c =
+pub returns-in-Ok-condition : goal.returns-in-Ok-condition
+returns-in-Ok-condition c =
     let p = c.requires in
-    let q = c.in-Is.is in record {
+    let q = c.in-Ok.is in record {
       few = size_few _ _ (known c.type_inv.e) p.0 p.1 c.expression_size.ensures q;
       told = λ v x hv hx.
           let m = sized_is _ _ hv hx c.expression_size.ensures q in
-          let f : is_condition (mark_of m.0) ≡ fine tt = ap is_condition m.2 ∙ fit_fine c.condition.ensures c.in-Fine.is in
+          let f : is_condition (mark_of m.0) ≡ fine tt = ap is_condition m.2 ∙ fit_fine c.condition.ensures c.in-Ok-condition.is in
           sized_given bound_expression (filter_on v x m.1 f) (sym m.3);
     }
 
-pub returns-in-Flaw : goal.returns-in-Flaw
-returns-in-Flaw c = record {
+pub returns-in-Err-condition : goal.returns-in-Err-condition
+returns-in-Err-condition c = record {
   few = at_most_off 4294967295 c.refuse.ensures;
   told = λ v x hv hx.
-      let m = sized_is _ _ hv hx c.expression_size.ensures c.in-Is.is in
-      let f : is_condition (mark_of m.0) ≡ flaw _ = ap is_condition m.2 ∙ fit_flaw c.condition.ensures c.in-Flaw.is in
+      let m = sized_is _ _ hv hx c.expression_size.ensures c.in-Ok.is in
+      let f : is_condition (mark_of m.0) ≡ flaw _ = ap is_condition m.2 ∙ fit_flaw c.condition.ensures c.in-Err-condition.is in
       c.refuse.ensures ∙ steps.sized_refused bound_expression (filter_flaw v x m.1 f);
 }
 
-pub returns-in-Refused : goal.returns-in-Refused
-returns-in-Refused c = record {
+pub returns-in-Err : goal.returns-in-Err
+returns-in-Err c = record {
   few = tt;
   told = λ v x hv hx.
-      steps.sized_refused bound_expression (filter_off v x (sized_refused _ _ hv hx c.expression_size.ensures c.in-Refused.is));
+      steps.sized_refused bound_expression (filter_off v x (sized_refused _ _ hv hx c.expression_size.ensures c.in-Err.is));
 }
