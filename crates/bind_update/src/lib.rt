@@ -24,8 +24,8 @@ ghost use Rattle.bind_update.specs.Assigned.{assign_to, judge_assignment};
 ghost use Rattle.bind_update.specs.Within.{ShortAssignment, ShortAssignments, Limited};
 ghost use Rattle.bind_update.specs.Updated.{update_table, Sound};
 
-use bind_expression::{Sized, expression_size};
-use bind_fits::{Fit, expression_fit};
+use bind_expression::expression_size;
+use bind_fits::expression_fit;
 use bind_repeats::{Of, first_repeated, is_at};
 use bind_table::resolve_direct_table;
 use bind_table_ref::table_size;
@@ -65,13 +65,9 @@ fn value_size(t: &[u8], e: &[u8], ty: DataType, nullable: bool) -> Result<usize,
     ensures told { (v : TableSchema) (x : Expr) (c : BoundColumnRef) → Holds table t.now v → Holds expression e.now x
         → c.ty ≡ ty → c.nullable ≡ nullable → result ≡ sized bound_expression (fitting_value v c x) }
 {
-    match expression_size(t, e) {
-        Sized::Is(mark, n) => match expression_fit(mark, ty, nullable) {
-            Fit::Fine => Ok(n),
-            Fit::Flaw(class) => Err(Refusal { class }),
-        },
-        Sized::Refused(r) => Err(r),
-    }
+    let bound = expression_size(t, e)?;
+    expression_fit(bound.mark, ty, nullable)?;
+    Ok(bound.len)
 }
 
 // How long the image of an assignment to a column is, which must be outside the key: a record of the column and the value.

@@ -1,7 +1,7 @@
 -- Expressions with names within the limit, as the code wants them, and lengths that no sum of a statement's parts lets wrap.
 -- Assumes nothing.
-use Rattle.std.specs.Prelude.{◌≡◌, true, List, ℕ, ◌≤◌, get_or}
-use Rattle.std.proofs.Common.{sym, ap, ◌∙◌, arith, Fits}
+use Rattle.std.specs.Prelude.{◌≡◌, true, List, ℕ, ◌≤◌, get_or, Result, Ok}
+use Rattle.std.proofs.Common.{ap, ◌∙◌, arith, Fits}
 use Rattle.std.proofs.Math.Option.{some}
 use Rattle.std.specs.Int.{w8}
 use Rattle.bytes_wire.specs.Le.{Bytes}
@@ -11,12 +11,11 @@ use Rattle.image_expression.specs.Expression.{expression}
 use Rattle.image_expression.specs.Names.{Within}
 use Rattle.image_parts.specs.Layout.{condition}
 use Rattle.image_parts.specs.NamesHeld.{condition_holds}
-use Rattle.bind_expression.specs.declared.Sized.{Sized}
-use Rattle.bind_expression.specs.declared.Sized.TheVariants as size
+use Rattle.bind_expression.specs.declared.BoundExpression.{BoundExpression}
 use Rattle.bind_expression.specs.Marks.{NamesWithin, Sizes, sized_is}
 use Rattle.bind_expression.specs.Names.{names_within}
 use Rattle.bind_expression.specs.Small.{short_run}
-use Rattle.rules.specs.declared.Mark.{Mark}
+use Rattle.rules.specs.declared.Refusal.{Refusal}
 use Rattle.rules.specs.Limits.{expression_names}
 use Rattle.rules.specs.Lists.{all}
 use Rattle.rules.specs.Statements.{Expr}
@@ -46,7 +45,8 @@ pub short_names : {s : List ℕ} → Bytes s → ShortExpression s → NamesWith
 short_names b h = held h.is (λ x k. names_within b k (h.short x k))
 
 -- what the marker measures fits 4 bytes
-pub size_few : (t e : List ℕ) {r : Sized} {m : Mark} {n : ℕ} → Bytes e → Is table t → ShortExpression e → Sizes t e r → r ≡ size.Is m n → n ≤ 4294967295
+pub size_few : (t e : List ℕ) {r : Result BoundExpression Refusal} {m : BoundExpression} → Bytes e → Is table t → ShortExpression e → Sizes t e r → r ≡ Ok m
+    → m.len ≤ 4294967295
 size_few t e b i s h q =
     held i (λ v k. held s.is (λ x g.
     let w = sized_is t e k g h q in

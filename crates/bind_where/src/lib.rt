@@ -12,8 +12,8 @@ ghost use Rattle.rules.specs.Statements.{Expr};
 ghost use Rattle.rules.specs.Tables.{TableSchema};
 ghost use Rattle.bind_where.specs.Short.{ShortExpression};
 
-use bind_expression::{Sized, expression_size};
-use bind_fits::{Fit, condition};
+use bind_expression::expression_size;
+use bind_fits::condition;
 use rules::Refusal;
 
 // How long the image of a condition over the table t is, which must be BOOL.
@@ -23,11 +23,7 @@ pub fn filter_size(t: &[u8], e: &[u8]) -> Result<usize, Refusal>
     ensures told { (v : TableSchema) (x : Expr) → Holds table t.now v → Holds expression e.now x
         → result ≡ sized bound_expression (bind_boolean_filter v x) }
 {
-    match expression_size(t, e) {
-        Sized::Is(mark, n) => match condition(mark) {
-            Fit::Fine => Ok(n),
-            Fit::Flaw(class) => Err(Refusal { class }),
-        },
-        Sized::Refused(r) => Err(r),
-    }
+    let bound = expression_size(t, e)?;
+    condition(bound.mark)?;
+    Ok(bound.len)
 }

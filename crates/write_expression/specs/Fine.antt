@@ -1,6 +1,6 @@
 -- A rule that is known to be fine has a mark, and the code's ruling tells it.
 -- Assumes nothing.
-use Rattle.std.specs.Prelude.{◌≡◌, refl, Bool, true, false, cond, ◌&&◌, ◌||◌, ℕ, ◌<◌, ◌≤◌}
+use Rattle.std.specs.Prelude.{◌≡◌, refl, Bool, true, false, cond, ◌&&◌, ◌||◌, ℕ, ◌<◌, ◌≤◌, Result, Ok, IsOk}
 use Rattle.std.proofs.Common.{◌∙◌, sym, ap, ap₂, subst, arith}
 use Rattle.std.proofs.Math.Decide.{dec_lt}
 use Rattle.rules.specs.declared.Class.{Class}
@@ -16,32 +16,27 @@ use Rattle.rules.specs.Marking.{is, two_of, equality, ordering, unary_rule, oper
 use Rattle.rules.specs.Statements.{Binary, binary}
 use Rattle.rules.proofs.Theorems.Answered.{never_fine}
 use Rattle.image_expression.specs.Place.{un_of, bin_of}
-use Rattle.bind_operators.specs.declared.Ruling.{Ruling}
-use Rattle.bind_operators.specs.declared.Ruling.TheVariants as ruling
-use Rattle.bind_operators.specs.Told.{told_mark}
+use Rattle.bind_operators.specs.Told.{told}
 
 pub record IsFine (u : Verdict Mark) : Type 0 where
   pub mark : Mark
   pub is : u ≡ fine mark
 
-pub record Granted (v : Ruling) : Type 0 where
-  pub mark : Mark
-  pub is : v ≡ ruling.Fine mark
+pub granted : (u : Verdict Mark) {v : Result Mark Class} → v ≡ told u → IsFine u → IsOk v
+granted (fine m) e f = rw e refl
+granted (flaw k) e f = absurd (never_fine f.is)
 
-pub fine_granted : {u : Verdict Mark} {v : Ruling} → v ≡ told_mark u → IsFine u → Granted v
-fine_granted e f = record { mark = f.mark; is = e ∙ ap told_mark f.is }
-
-pub granted_fine : (u : Verdict Mark) {v : Ruling} {m : Mark} → v ≡ told_mark u → v ≡ ruling.Fine m → u ≡ fine m
+pub granted_fine : (u : Verdict Mark) {v : Result Mark Class} {m : Mark} → v ≡ told u → v ≡ Ok m → u ≡ fine m
 granted_fine (fine n) e g = cc
 granted_fine (flaw k) e g = absurd (let z : ◌≡◌ {A = ℕ} 0 1 = cc in omega arith)
 
 -- 15 and 29 are operators that no rule is fine with
-pub ruled_not : (k : ℕ) (m : Mark) → 14 ≤ k → k < 16 → IsFine (unary_rule (un_of k) m) → k ≡ 14
+pub unary_below : (k : ℕ) (m : Mark) → k < 16 → IsFine (unary_rule (un_of k) m) → k < 15
 unfolding un_of unary_rule
-ruled_not k m lo hi f = go (dec_lt k 15)
+unary_below k m h f = go (dec_lt k 15)
   where
-    go : Dec (k < 15) → k ≡ 14
-    go (yes l) = omega arith
+    go : Dec (k < 15) → k < 15
+    go (yes l) = l
     go (no n) = let e : k ≡ 15 = omega arith in absurd (never_fine (rw e at f.is))
 
 pub ruled_below : (k : ℕ) (a b : Mark) → k < 30 → IsFine (binary_rule (bin_of k) a b) → k < 29

@@ -4,13 +4,12 @@ ghost use Rattle.image_expression.specs.Place.{node_at, un_of, bin_of, HasNode};
 ghost use Rattle.rules.specs.Answers.{fine};
 ghost use Rattle.rules.specs.Marking.{unary_rule, binary_rule};
 ghost use Rattle.rules.specs.Statements as statements;
-ghost use Rattle.bind_operators.specs.declared.Ruling.TheVariants as ruling;
 ghost use Rattle.write_expression.specs.Signs.{signs};
 ghost use Rattle.write_expression.specs.Rows.{Rooted};
-ghost use Rattle.write_expression.specs.Fine.{IsFine, Granted, result_type};
+ghost use Rattle.write_expression.specs.Fine.{IsFine, result_type};
 
 use crate::Bound;
-use bind_operators::{Ruling, null_test, unary};
+use bind_operators::unary;
 use image_bound::nodes::{NODE, put_node};
 use image_expression::kind;
 use rules::{BoundBinaryOperator, BoundUnaryOperator, ExpressionType, Mark};
@@ -26,28 +25,26 @@ pub fn signs_number(e: &[u8], j: usize, k: u8) -> bool
     kind(e, j) == 2
 }
 
-// The mark that a rule gives.
-fn granted(v: Ruling) -> Mark
-    requires { Granted v }
-    ensures { v ≡ ruling.Fine result }
+// 12 is +, 13 -, 14 NOT.
+#[tactic(auto, unfolding(image_expression::specs::Place::un_of))]
+fn unary_operator(k: u8) -> BoundUnaryOperator
+    requires { (12 ≤ k) × (k < 15) }
+    ensures { statements.unary result ≡ un_of k }
 {
-    match v {
-        Ruling::Fine(m) => m,
-        // never: the rule is kept
-        Ruling::Flaw(class) => null_test(),
+    match k {
+        12 => BoundUnaryOperator::Positive,
+        13 => BoundUnaryOperator::Negative,
+        _ => BoundUnaryOperator::Not,
     }
 }
 
-// 12 is +, 13 -, 14 NOT.
+// The mark of the node: its rule is kept.
+#[tactic(auto, using(crate::specs::Fine::granted, crate::specs::Fine::granted_fine))]
 pub fn one_operand(k: u8, m: Mark) -> Mark
     requires { ((12 ≤ k) × (k < 16)) × IsFine (unary_rule (un_of k) m) }
     ensures { unary_rule (un_of k) m ≡ fine result }
 {
-    match k {
-        12 => granted(unary(BoundUnaryOperator::Positive, m)),
-        13 => granted(unary(BoundUnaryOperator::Negative, m)),
-        _ => granted(unary(BoundUnaryOperator::Not, m)),
-    }
+    unary(unary_operator(k), m).unwrap()
 }
 
 fn operator(k: u8) -> BoundBinaryOperator

@@ -1,5 +1,6 @@
 -- `bind_where::filter_size` meets its contract.
 use mathlib.Core.Path.{◌≡◌, sym, ap, ◌∙◌}
+use Rattle.std.proofs.lemmas.Result.{IfOk-from_err}
 use Rattle.image_bound.specs.Expression.{bound_expression}
 use Rattle.bind_expression.specs.Marks.{sized_is, sized_refused}
 use Rattle.bind_table.specs.Steps as steps
@@ -17,29 +18,29 @@ expression_size-requires c =
     let p = c.requires in
     (p.0, (p.1.is, short_names (known c.type_inv.e) p.1))
 
-pub returns-in-Fine : goal.returns-in-Fine
-returns-in-Fine c =
+pub returns : goal.returns
+returns c =
     let p = c.requires in
-    let q = c.in-Is.is in record {
+    let q = c.in_ok-bound.was in record {
       few = size_few _ _ (known c.type_inv.e) p.0 p.1 c.expression_size.ensures q;
       told = λ v x hv hx.
           let m = sized_is _ _ hv hx c.expression_size.ensures q in
-          let f : is_condition (mark_of m.0) ≡ fine tt = ap is_condition m.2 ∙ fit_fine c.condition.ensures c.in-Fine.is in
+          let f : is_condition (mark_of m.0) ≡ fine tt = ap is_condition m.2 ∙ fit_fine c.condition.ensures c.in_ok-condition.was in
           sized_given bound_expression (filter_on v x m.1 f) (sym m.3);
     }
 
-pub returns-in-Flaw : goal.returns-in-Flaw
-returns-in-Flaw c = record {
-  few = tt;
+pub returns-in_err-condition : goal.returns-in_err-condition
+returns-in_err-condition c = record {
+  few = IfOk-from_err _ _ c.from_residual-in_err-condition.ensures.0;
   told = λ v x hv hx.
-      let m = sized_is _ _ hv hx c.expression_size.ensures c.in-Is.is in
-      let f : is_condition (mark_of m.0) ≡ flaw _ = ap is_condition m.2 ∙ fit_flaw c.condition.ensures c.in-Flaw.is in
-      steps.sized_refused bound_expression (filter_flaw v x m.1 f);
+      let m = sized_is _ _ hv hx c.expression_size.ensures c.in_ok-bound.was in
+      let f : is_condition (mark_of m.0) ≡ flaw _ = ap is_condition m.2 ∙ fit_flaw c.condition.ensures c.in_err-condition.was in
+      steps.sized_handed bound_expression c.from_residual-in_err-condition.ensures.1 (filter_flaw v x m.1 f);
 }
 
-pub returns-in-Refused : goal.returns-in-Refused
-returns-in-Refused c = record {
-  few = tt;
+pub returns-in_err-bound : goal.returns-in_err-bound
+returns-in_err-bound c = record {
+  few = IfOk-from_err _ _ c.from_residual.ensures.0;
   told = λ v x hv hx.
-      steps.sized_refused bound_expression (filter_off v x (sized_refused _ _ hv hx c.expression_size.ensures c.in-Refused.is));
+      steps.sized_handed bound_expression c.from_residual.ensures.1 (filter_off v x (sized_refused _ _ hv hx c.expression_size.ensures c.in_err-bound.was));
 }
