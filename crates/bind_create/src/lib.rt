@@ -64,15 +64,9 @@ pub fn take_options(s: &[u8]) -> Result<OptionState, Class>
     requires { Is (list_of 2 option) s.now }
     ensures { (os : List ColumnOption) → Holds (list_of 2 option) s.now os → step_of result ≡ options no_options os }
 {
-    let n = bytes_bundle::parts(s, 2);
     let mut state = bind_options::start();
-    let mut at = bytes_bundle::first(s, 2);
-    let mut i = 0;
-    while i < n {
-        let end = bytes_bundle::next(s, 2, i, at);
-        state = take_option(state, &s[at..end])?;
-        at = end;
-        i += 1;
+    for o in bytes_bundle::iter(s, 2) {
+        state = take_option(state, o)?;
     }
     Ok(state)
 }

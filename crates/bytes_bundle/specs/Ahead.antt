@@ -44,9 +44,12 @@ pub record AheadBy {A B : Type 0} (w : ℕ) (f : Format A) (s : List ℕ) (X : L
 abbrev pub Ahead : {A B : Type 0} → Format A → List ℕ → (List A → B) → List (List ℕ) → (List A → B) → Type 0
 Ahead = AheadBy 2
 
--- before the first turn
+-- before the first turn; `ahead_from` where F is not X as it stands
+pub ahead_from : {A B : Type 0} {w : ℕ} {f : Format A} {s : List ℕ} {X F : List A → B} {ps : List (List ℕ)} → ps ≡ parts_of w s → ((vs : List A) → X vs ≡ F vs) → AheadBy w f s X ps F
+ahead_from {w = w} {f = f} {s = s} e g = record { is = λ vs h. let k = list_holds w f s h in (vs, rw e k, g vs) }
+
 pub ahead : {A B : Type 0} {w : ℕ} {f : Format A} {s : List ℕ} {X : List A → B} {ps : List (List ℕ)} → ps ≡ parts_of w s → AheadBy w f s X ps X
-ahead {w = w} {f = f} {s = s} e = record { is = λ vs h. let k = list_holds w f s h in (vs, rw e k, refl) }
+ahead e = ahead_from e (λ vs. refl)
 
 module _ {A B : Type 0} {w : ℕ} {f : Format A} {s : List ℕ} {X F : List A → B} {ps : List (List ℕ)} (k : AheadBy w f s X ps F) where
   module _ {p : List ℕ} {qs : List (List ℕ)} (e : ps ≡ p ∷ qs) where

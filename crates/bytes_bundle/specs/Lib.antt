@@ -2,6 +2,7 @@ pub mod Bundle
 pub mod Contents
 pub mod Left
 pub mod Ahead
+pub mod Numbered
 pub mod Decides
 pub mod Laws
 pub mod Fields
