@@ -1,6 +1,6 @@
 -- A rule that is known to be fine has a mark, and the code's ruling tells it.
 -- Assumes nothing.
-use Rattle.std.specs.Prelude.{◌≡◌, refl, Bool, true, false, cond, ◌&&◌, ◌||◌, ℕ, ◌<◌, ◌≤◌, Result, Ok, IsOk}
+use Rattle.std.specs.Prelude.{◌≡◌, refl, Bool, true, false, cond, ◌&&◌, ◌||◌, ℕ, ◌<◌, Result, Ok, IsOk}
 use Rattle.std.proofs.Common.{◌∙◌, sym, ap, ap₂, subst, arith}
 use Rattle.std.proofs.Math.Decide.{dec_lt}
 use Rattle.rules.specs.declared.Class.{Class}
