@@ -1,5 +1,4 @@
--- The character that stands at an index of a list: what `char_len` finds. The facts are of the bytes at the index and after it, so that
--- plain arithmetic settles each; `proofs/Grammar.antt` ties them to the grammar.
+-- The character that stands at an index of a list. The facts are of the bytes at the index and after it, so that plain arithmetic settles each.
 -- Assumes nothing: these are definitions.
 use Rattle.std.specs.Prelude.{ℕ, zero, suc, ◌+◌, ◌≤◌, Bool, true, false, ◌&&◌, List, [], ◌∷◌, ltb, length, get_or}
 use Rattle.bytes_utf8.specs.Utf8.{In, Two, Three, Three-of, Four, Four-of}
@@ -37,7 +36,7 @@ pub data CharAt (s : List ℕ) (i : ℕ) : ℕ → Type 0 where
   char3 : Three (b0 s i) (b1 s i) (b2 s i) → i + 3 ≤ length s → CharAt s i 3
   char4 : Four (b0 s i) (b1 s i) (b2 s i) (b3 s i) → i + 4 ≤ length s → CharAt s i 4
 
--- the list begins with n bytes of ASCII: what `eight_ascii` finds
+-- the list begins with n bytes of ASCII
 unfoldable pub ascii : ℕ → List ℕ → Bool
 ascii zero s = true
 ascii (suc n) [] = false
