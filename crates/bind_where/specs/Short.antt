@@ -1,7 +1,7 @@
 -- Expressions with names within the limit, as the code wants them, and lengths that no sum of a statement's parts lets wrap.
 -- Assumes nothing.
 use Rattle.std.specs.Prelude.{◌≡◌, true, List, ℕ, ◌≤◌, get_or}
-use Rattle.std.proofs.Common.{sym, ap, ◌∙◌, arith, Fits}
+use Rattle.std.proofs.Common.{ap, ◌∙◌, arith, Fits}
 use Rattle.std.proofs.Math.Option.{some}
 use Rattle.std.specs.Int.{w8}
 use Rattle.bytes_wire.specs.Le.{Bytes}

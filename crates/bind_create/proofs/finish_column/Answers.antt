@@ -1,7 +1,7 @@
 -- `bind_create::finish_column` meets its contract.
 use mathlib.Core.Path.{sym, ap, ◌∙◌}
 use Rattle.bind_options.specs.Steps.{state_of}
-use Rattle.std.specs.Prelude.{Ok, Err}
+use Rattle.std.specs.Prelude.{Ok}
 use Rattle.bind_create.specs.Keys.{has_key, inlined}
 use Rattle.bind_create.proofs.Columns.{finish_null, finish_second, finish_type, finish_fine}
 use Rattle.bind_create.proofs.finish_column.Goals as goal

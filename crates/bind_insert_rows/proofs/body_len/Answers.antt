@@ -1,5 +1,5 @@
 -- `bind_insert_rows::body_len` meets its contract.
-use mathlib.Core.Path.{◌≡◌, sym, ap, ◌∙◌, subst}
+use mathlib.Core.Path.{◌≡◌, sym, ap, ◌∙◌}
 use mathlib.Core.Bool.{false}
 use lib.ListN.{length}
 use Rattle.bytes_format.proofs.Formats.{list_of}

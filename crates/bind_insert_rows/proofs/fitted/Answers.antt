@@ -1,5 +1,5 @@
 -- `bind_insert_rows::fitted` meets its contract.
-use mathlib.Core.Path.{sym, ap, ◌∙◌}
+use mathlib.Core.Path.{sym, ap}
 use Rattle.bind_fits.specs.declared.Fit.{Fit}
 use Rattle.bind_insert_rows.specs.Values.{fit_told}
 use Rattle.bind_insert_rows.proofs.fitted.Goals as goal

@@ -1,5 +1,5 @@
 -- `bind_insert_rows::row_len` meets its contract. The invariant: how long the values so far are, and what is left of the row.
-use mathlib.Core.Path.{sym, ◌∙◌, subst}
+use mathlib.Core.Path.{sym, ◌∙◌}
 use native.Mathlib.Omega.{arith}
 use Rattle.bytes_bundle.specs.Held.{along, along_on, part_is, list_bundle, list_count}
 use Rattle.image_expression.specs.Expression.{expression}

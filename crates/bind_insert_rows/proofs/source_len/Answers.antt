@@ -1,5 +1,5 @@
 -- `bind_insert_rows::source_len` meets its contract.
-use mathlib.Core.Path.{sym, ◌∙◌, subst}
+use mathlib.Core.Path.{sym, ◌∙◌}
 use Rattle.bytes_format.proofs.Formats.{list_of}
 use Rattle.bytes_bundle.specs.Decides.{failed, passed}
 use Rattle.bytes_bundle.specs.Held.{is_held}
