@@ -18,8 +18,7 @@ use Rattle.rules.specs.Analyze.{OptionState, no_options, option_of, options, sai
 use Rattle.image_parts.specs.Layout.{column_type_no, option_kind_no, option}
 use Rattle.bind_table.specs.Steps.{step_on, step_off, test_on, test_off}
 use Rattle.bind_create.specs.declared.Key.{Key}
-use Rattle.std.specs.Prelude.{Result}
-use Rattle.std.specs.Prelude.{Ok, Err}
+use Rattle.std.specs.Prelude.{Result, Ok, Err}
 use Rattle.bind_create.specs.Defined.{one_option, options_next, finish_column, judge_column, typed}
 use Rattle.bind_create.specs.Columns.{Inlined}
 use Rattle.bind_create.specs.Keys.{has_key, inlined}

@@ -19,8 +19,7 @@ use Rattle.rules.specs.Statements.{Name, ColumnDefinition, Constraint, primary_k
 use Rattle.rules.specs.Analyze.{register_key, constraint, constraints}
 use Rattle.bind_create.specs.declared.Key.{Key}
 use Rattle.bind_create.specs.declared.Key.TheVariants.{Constrained}
-use Rattle.std.specs.Prelude.{Result}
-use Rattle.std.specs.Prelude.{Ok, Err}
+use Rattle.std.specs.Prelude.{Result, Ok, Err}
 use Rattle.bind_create.specs.Keys.{has_key, constrained, KeyAt, key_there, ConstraintsRead}
 
 -- ---- one constraint

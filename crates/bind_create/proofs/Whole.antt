@@ -15,8 +15,7 @@ use Rattle.bind_repeats.specs.declared.Of.TheVariants as of
 use Rattle.std.specs.Prelude.{Option as Maybe}
 use Rattle.bind_repeats.specs.Repeats.{first_repeated}
 use Rattle.bind_repeats.specs.Entries.{entry, FindsRepeat}
-use Rattle.std.specs.Prelude.{Result}
-use Rattle.std.specs.Prelude.{Ok, Err}
+use Rattle.std.specs.Prelude.{Result, Ok, Err}
 use Rattle.bind_table.specs.Told.{sized}
 use Rattle.bind_table.specs.Steps.{classed, step_on, step_off, test_on, test_off, sized_given, sized_refused}
 use Rattle.bind_table.specs.Short.{short_plain}
@@ -36,8 +35,6 @@ use Rattle.rules.specs.Analyze.{define_columns, key_ids, analyze_create_table}
 use Rattle.image_parts.specs.Layout.{column_definition, create}
 use Rattle.bind_create.specs.declared.Key.{Key}
 use Rattle.bind_create.specs.declared.Key.TheVariants.{Nowhere, Column, Constrained}
-use Rattle.std.specs.Prelude.{Result}
-use Rattle.std.specs.Prelude.{Ok, Err}
 use Rattle.bind_create.specs.Defined.{schemas, definition, key_of, created, key_table, key_joined, define_table, create_steps, room_for, created_size, keys_length}
 use Rattle.bind_create.specs.Keys.{KeyAt, NamedAt, ByColumn, key_inline, ColumnsRead, ReadsConstraints, read_of, read_key, ReadsKey, read_joined, counted}
 use Rattle.bind_create.specs.Within.{PlaceIn, KeyIn, names_few}

@@ -13,14 +13,12 @@ use Rattle.rules.specs.Names.{canonical}
 use Rattle.rules.specs.Statements.{Name, ColumnDefinition, Constraint, primary_key, other_constraint, CreateTable}
 use Rattle.rules.specs.Analyze.{Definition, define_columns, constraints}
 use Rattle.rules.proofs.Theorems.Answered.{mapped}
-use Rattle.std.specs.Prelude.{Result}
 use Rattle.bind_table.specs.Told.{told}
 use Rattle.bind_create.specs.Defined.{schema, schemas, definition}
 use Rattle.std.specs.Prelude as rust
 use Rattle.bind_create.specs.declared.Key.{Key}
 use Rattle.bind_create.specs.declared.Key.TheVariants.{Nowhere, Column, Constrained}
-use Rattle.std.specs.Prelude.{Result}
-use Rattle.std.specs.Prelude.{Ok, Err}
+use Rattle.std.specs.Prelude.{Result, Ok, Err}
 
 abbrev pub has_key : Key → Bool
 has_key Nowhere = false

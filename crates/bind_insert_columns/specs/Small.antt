@@ -1,6 +1,6 @@
 -- How long parts can be: no part of an image with counts of 2 bytes has more than 65,535 bytes, and so no sum of lengths wraps.
 -- Assumes nothing.
-use Rattle.std.specs.Prelude.{◌≡◌, List, [], ◌∷◌, ℕ, zero, suc, ◌-◌, ◌≤◌, ◌<◌, length, take, drop, get_or}
+use Rattle.std.specs.Prelude.{◌≡◌, List, [], ◌∷◌, ℕ, zero, suc, ◌-◌, ◌<◌, length, take, drop, get_or}
 use Rattle.std.proofs.Common.{sym, ap, subst, arith}
 use Rattle.bytes_wire.specs.Le.{Bytes}
 use Rattle.bytes_format.specs.Format.{Every}

@@ -15,7 +15,7 @@ use Rattle.rules.specs.Analyze.{analyze}
 use Rattle.rules.specs.Heard.{Outcome, refuses, answers, next, class_no, heard, received, judged_statement, fitted, bind_outcome}
 use Rattle.image_parts.specs.Layout.{statement}
 use Rattle.image_catalogue.specs.Layout.{catalogue}
-use Rattle.std.specs.Prelude.{Ok, Err}
+use Rattle.std.specs.Prelude.{Ok}
 use Rattle.bind_table.specs.Told as resolving
 use Rattle.bind_table.specs.Steps.{Sized, sized_is}
 use Rattle.bind_table.specs.Room.{Bindable, bindable}

@@ -34,8 +34,7 @@ use Rattle.rules.specs.Analyze.{analyze_create_table}
 use Rattle.rules.proofs.Theorems.Answered.{never_given}
 use Rattle.image_parts.specs.Layout.{object_name, column_definition, create}
 use Rattle.bind_create.specs.declared.Key.{Key}
-use Rattle.std.specs.Prelude.{Result}
-use Rattle.std.specs.Prelude.{Ok, Err}
+use Rattle.std.specs.Prelude.{Result, Ok, Err}
 use Rattle.bind_create.specs.Defined.{schemas, key_of, created, room_for, room_is, created_size}
 use Rattle.bind_create.specs.Keys.{KeyAt, Read, read_of, KeyRead, ReadsKey}
 use Rattle.bind_create.specs.Within.{CreateWithin, PlaceIn, KeyIn, short_table}

@@ -1,6 +1,4 @@
 -- `bind_delete::delete_size` meets its contract.
-use mathlib.Core.Path.{◌∙◌}
-use native.Mathlib.Omega.{arith}
 use Rattle.image_bound.specs.Expression.{bound_expression}
 use Rattle.image_bound.specs.Layout.{bound_statement}
 use Rattle.bind_where.specs.There.{There, absent, present, there_is, there_reads, there_short}

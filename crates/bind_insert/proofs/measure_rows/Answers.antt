@@ -1,5 +1,5 @@
 -- `bind_insert::measure_rows` meets its contract.
-use mathlib.Core.Path.{sym, ◌∙◌, subst}
+use mathlib.Core.Path.{sym, ◌∙◌}
 use Rattle.bytes_format.proofs.Formats.{list_of}
 use Rattle.image_value.specs.Parts.{value}
 use Rattle.bind_table.specs.Steps.{sized_refused, sized_as}

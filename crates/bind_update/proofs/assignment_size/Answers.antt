@@ -1,5 +1,4 @@
 -- `bind_update::assignment_size` meets its contract.
-use mathlib.Core.Path.{◌∙◌}
 use Rattle.bytes_bundle.specs.Held.{Holds, held}
 use Rattle.image_bound.specs.Layout as layout
 use Rattle.image_catalogue.specs.Layout.{table}

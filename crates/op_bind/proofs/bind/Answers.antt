@@ -24,10 +24,10 @@ analyze-requires c = let h = taken (goal.at.analyze-requires c).Else-number-ne0 
 pub put-requires : goal.put-requires
 put-requires c =
     let h = taken (goal.at.put-requires c).Else-number-ne0 in
-    record { both = h; is = sym c.in-Is.is ∙ c.analyze.ensures h.tables h.value h.lists h.holds }
+    record { both = h; is = sym c.in-Ok.is ∙ c.analyze.ensures h.tables h.value h.lists h.holds }
 
-pub returns-in-Refused : goal.returns-in-Refused
-returns-in-Refused c =
-    let h = taken (goal.at.returns-in-Refused c).Else-number-ne0 in
-    let e = sized_off bound_statement (c.analyze.ensures h.tables h.value h.lists h.holds) c.in-Refused.is in
-    leaves_as_it_was (refused_by_rule _ _ _ h e) (c.refused-in-Refused.ensures ∙ ap (λ (k : ℕ). reply k 0) c.class_number.ensures)
+pub returns-in-Err : goal.returns-in-Err
+returns-in-Err c =
+    let h = taken (goal.at.returns-in-Err c).Else-number-ne0 in
+    let e = sized_off bound_statement (c.analyze.ensures h.tables h.value h.lists h.holds) c.in-Err.is in
+    leaves_as_it_was (refused_by_rule _ _ _ h e) (c.refused-in-Err.ensures ∙ ap (λ (k : ℕ). reply k 0) c.class_number.ensures)

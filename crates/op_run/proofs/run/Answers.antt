@@ -24,14 +24,14 @@ analyze-requires c = let h = taken (goal.at.analyze-requires c).Else-number-ne0 
 pub run_bound-requires : goal.run_bound-requires
 run_bound-requires c =
     let h = taken (goal.at.run_bound-requires c).Else-number-ne0 in
-    let z = sized_is bound_statement (c.analyze.ensures h.tables h.value h.lists h.holds) c.in-Is.is in
+    let z = sized_is bound_statement (c.analyze.ensures h.tables h.value h.lists h.holds) c.in-Ok.is in
     record { both = h; value = z.value; gives = z.gives }
 
-pub returns-in-Is : goal.returns-in-Is
-returns-in-Is c = c.run_bound.ensures
+pub returns-in-Ok : goal.returns-in-Ok
+returns-in-Ok c = c.run_bound.ensures
 
-pub returns-in-Refused : goal.returns-in-Refused
-returns-in-Refused c =
-    let h = taken (goal.at.returns-in-Refused c).Else-number-ne0 in
-    let e = sized_off bound_statement (c.analyze.ensures h.tables h.value h.lists h.holds) c.in-Refused.is in
-    leaves_as_it_was (run_refused_by_rule _ _ _ _ h e) (c.refused-in-Refused.ensures ∙ ap (λ (k : ℕ). reply k 0) c.class_number.ensures)
+pub returns-in-Err : goal.returns-in-Err
+returns-in-Err c =
+    let h = taken (goal.at.returns-in-Err c).Else-number-ne0 in
+    let e = sized_off bound_statement (c.analyze.ensures h.tables h.value h.lists h.holds) c.in-Err.is in
+    leaves_as_it_was (run_refused_by_rule _ _ _ _ h e) (c.refused-in-Err.ensures ∙ ap (λ (k : ℕ). reply k 0) c.class_number.ensures)
