@@ -15,7 +15,7 @@ ghost use Rattle.rules.specs.Tables.{TableSchema};
 ghost use Rattle.run_values.specs.Worths.{ordinal, told, plainly};
 ghost use Rattle.run_expression.specs.Works.{Workable, Works, ObeysTable, Says, StandsAt};
 
-use catalogue_lookup::{Named, find_column};
+use catalogue_lookup::find_column;
 use image_expression::{kind, text};
 use image_row::value_at;
 use rules::Ordinal;
@@ -67,11 +67,8 @@ fn column(t: &[u8], quoted: bool, name: &[u8], r: &[u8]) -> Worth
         → Says x e result (told (column_value x (column_by_name v (canonical (named quoted name.now))))) }
 {
     match find_column(t, quoted, name) {
-        Named::Is(c) => {
-            let ordinal = c.ordinal;
-            stored(r, ordinal.0)
-        }
-        Named::Nothing => Worth::Fault,
+        Some(c) => stored(r, c.ordinal.0),
+        None => Worth::Fault,
     }
 }
 
