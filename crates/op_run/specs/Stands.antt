@@ -1,6 +1,6 @@
 -- Where an UPDATE that is run stands: its table in the bytes of the catalogue, its assignments and its condition in those of the statement.
 -- Assumes nothing.
-use Rattle.std.specs.Prelude.{◌≡◌, refl, Bool, true, false, cond, not, ◌&&◌, List, ℕ, ◌-◌, ◌≤◌, length, take, drop}
+use Rattle.std.specs.Prelude.{◌≡◌, refl, Bool, true, false, cond, not, ◌&&◌, List, ℕ, ◌-◌, ◌≤◌, length}
 use Rattle.std.proofs.Common.{sym, ap, ap₂, ◌∙◌, subst, leb-true}
 use Rattle.std.proofs.Math.Option.{Option, none, some, map}
 use Rattle.bytes_bundle.specs.Decides.{and_of}

@@ -10,7 +10,6 @@ use Rattle.image_bound.specs.Bundles.{head2, head2_length}
 use Rattle.image_bound.specs.Columns.{bound_column_ref}
 use Rattle.image_bound.specs.Expression.{bound_expression}
 use Rattle.image_bound.specs.Layout as layout
-use Rattle.image_bound.specs.Made.{column_ref}
 use Rattle.image_bound.specs.Sizes.{assignment_length}
 use Rattle.image_bound.specs.Spelt.{column_ref_length}
 use Rattle.image_bound.specs.Statements.{assignment_bytes}

@@ -1,9 +1,8 @@
 -- What a bound UPDATE tells of the steps that made it.
 -- Assumes nothing.
-use Rattle.std.specs.Prelude.{◌≡◌, refl, Bool, true, false, List, [], ◌∷◌, ℕ, zero, suc, ◌+◌, length, drop}
+use Rattle.std.specs.Prelude.{◌≡◌, refl, List, [], ◌∷◌, ℕ, zero, suc, ◌+◌, length, drop}
 use Rattle.std.proofs.Common.{sym, ap, ◌∙◌, subst, arith, length-drop}
-use Rattle.std.proofs.Math.Option.{Option, some, some-injective, none-ne-some}
-use Rattle.image_catalogue.specs.Entries.{find_hit, find_miss}
+use Rattle.std.proofs.Math.Option.{Option, some}
 use Rattle.bind_table.specs.Steps.{step_on}
 use Rattle.rules.specs.declared.Class.TheVariants.{SchemaMismatch, ConstraintViolation, UnsupportedSql, InvalidArgument}
 use Rattle.rules.specs.declared.ColumnId.{ColumnId}
@@ -11,11 +10,11 @@ use Rattle.rules.specs.Answers.{given, found}
 use Rattle.rules.specs.Analyze.{target_name, assignment, assignments, resolve_direct_table, analyze_update}
 use Rattle.rules.specs.Bound.{BoundColumnRef, BoundExpr, mark_of, BoundAssignment, BoundStatement}
 use Rattle.rules.specs.Fits.{bind_boolean_filter, fit}
-use Rattle.rules.specs.Lists.{is_empty, any, find}
-use Rattle.rules.specs.Lookup.{bound_column, bound_columns_from, bound_columns, ref_named, column_by_name, in_key}
+use Rattle.rules.specs.Lists.{is_empty, any}
+use Rattle.rules.specs.Lookup.{column_by_name, in_key}
 use Rattle.rules.specs.Marking.{bind_expression}
 use Rattle.rules.specs.Statements.{Target, Assignment, Update, Expr}
-use Rattle.rules.specs.Tables.{ColumnSchema, TableSchema, Catalogue, same_id}
+use Rattle.rules.specs.Tables.{TableSchema, Catalogue, same_id}
 use Rattle.rules.proofs.Theorems.Steps.{step, step_found, step_past, step_fine}
 use Rattle.bind_update.specs.Targets.{target_column, column_named_lem}
 use Rattle.write_expression.specs.Found.{column_owner}

@@ -9,7 +9,6 @@ use Rattle.bind_table.specs.Steps.{TableGiven, resolved_is, resolved_off}
 use Rattle.bind_table.specs.Tables.{named_table}
 use Rattle.bind_insert.specs.Within.{within_name}
 use Rattle.write_insert.specs.Written.{insert_room, insert_wrote, insert_never}
-use borrow.Author.Rules.{rules}
 use Rattle.write_insert.proofs.write_insert.Goals.{In-Ok}
 use Rattle.write_insert.proofs.write_insert.Goals as goal
 
