@@ -15,7 +15,7 @@ use Rattle.bind_table.specs.Given.{resolved_sound, catalogue_sound}
 use Rattle.bind_table.specs.Steps.{classed, step_on, step_off, test_on, test_off, found_on, found_off, TableGiven}
 use Rattle.rules.specs.declared.Class.TheVariants.{UnsupportedSql, InvalidArgument}
 use Rattle.rules.specs.declared.Refusal.{Refusal}
-use Rattle.rules.specs.Answers.{Answer, given, refused}
+use Rattle.rules.specs.Answers.{Answer, given, refused, ◌>>=◌}
 use Rattle.rules.specs.Analyze.{assignments, resolve_direct_table, analyze_update}
 use Rattle.rules.specs.Bound.{BoundAssignment, BoundExpr, BoundStatement, bound_update}
 use Rattle.rules.specs.Fits.{bind_boolean_filter}
