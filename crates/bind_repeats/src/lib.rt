@@ -93,15 +93,16 @@ fn are_alike(a: &[u8], b: &[u8]) -> bool
     are_alike_names(a, b)
 }
 
-// The first entry that repeats an earlier one.
+// The first entry that repeats an earlier one: both loops are left at once.
 pub fn first_repeated(s: &[u8], of: Of) -> Option<usize>
     requires { AllShort of s.now }
     ensures { FindsRepeat of s.now result }
 {
     let n = bytes_bundle::parts(s, 2);
+    let mut place = None;
     let mut at = bytes_bundle::first(s, 2);
     let mut i = 0;
-    while i < n {
+    'search: while i < n {
         let end = bytes_bundle::next(s, 2, i, at);
         let name = named(&s[at..end], of);
         let mut from = bytes_bundle::first(s, 2);
@@ -109,7 +110,8 @@ pub fn first_repeated(s: &[u8], of: Of) -> Option<usize>
         while j < i {
             let to = bytes_bundle::next(s, 2, j, from);
             if are_alike(name, named(&s[from..to], of)) {
-                return Some(i);
+                place = Some(i);
+                break 'search;
             }
             from = to;
             j += 1;
@@ -117,5 +119,5 @@ pub fn first_repeated(s: &[u8], of: Of) -> Option<usize>
         at = end;
         i += 1;
     }
-    None
+    place
 }

@@ -29,22 +29,24 @@ fn alike(a: &[u8], b: &[u8], by: By) -> bool
     }
 }
 
-// The first entry that a later one repeats.
+// The first entry that a later one repeats: both loops are left at once.
 fn first_repeat(s: &[u8], by: By) -> Option<usize>
     requires { IsBundle 2 s.now × AllTold by s.now }
     ensures { result ≡ first_repeated (alike_by by) 0 (parts_of 2 s.now) }
 {
     let n = bytes_bundle::parts(s, 2);
+    let mut place = None;
     let mut at = bytes_bundle::first(s, 2);
     let mut i = 0;
-    while i < n {
+    'search: while i < n {
         let end = bytes_bundle::next(s, 2, i, at);
         let mut from = end;
         let mut j = i + 1;
         while j < n {
             let to = bytes_bundle::next(s, 2, j, from);
             if alike(&s[at..end], &s[from..to], by) {
-                return Some(i);
+                place = Some(i);
+                break 'search;
             }
             from = to;
             j += 1;
@@ -52,7 +54,7 @@ fn first_repeat(s: &[u8], by: By) -> Option<usize>
         at = end;
         i += 1;
     }
-    None
+    place
 }
 
 // Whether no two entries are alike.

@@ -1,6 +1,6 @@
 -- Where an UPDATE that is run stands: its table in the bytes of the catalogue, its assignments and its condition in those of the statement.
 -- Assumes nothing.
-use Rattle.std.specs.Prelude.{◌≡◌, refl, Bool, true, false, cond, not, ◌&&◌, List, ℕ, ◌-◌, ◌≤◌, length, take, drop}
+use Rattle.std.specs.Prelude.{◌≡◌, refl, Bool, true, false, cond, not, ◌&&◌, List, ℕ, ◌-◌, ◌≤◌, length}
 use Rattle.std.proofs.Common.{sym, ap, ap₂, ◌∙◌, subst, leb-true}
 use Rattle.std.proofs.Math.Option.{Option, none, some, map}
 use Rattle.bytes_bundle.specs.Decides.{and_of}
@@ -111,10 +111,10 @@ module _ {s c b : List ℕ} (h : Received s c) {u : Running} (r : Dispatched h.t
 
 -- ---- over its table
 
-pub stands_over : {c b : List ℕ} {u : Running} (z : Stands c b u) {i e : ℕ} → TableGiven c (resolve_direct_table z.tables z.change.table) i e
-    → Over (take (e - i) (drop i c)) b u
-stands_over {c} {b} {u} z {i} {e} g = record {
-  holds = subst (λ (x : TableSchema). Holds table (take (e - i) (drop i c)) x) (given_same (sym g.gives ∙ z.resolves)) g.lies.holds;
+pub stands_over : {c b : List ℕ} {u : Running} (z : Stands c b u) {t : List ℕ} → TableGiven (resolve_direct_table z.tables z.change.table) t
+    → Over t b u
+stands_over {c} {b} {u} z {t} g = record {
+  holds = subst (λ (x : TableSchema). Holds table t x) (given_same (sym g.gives ∙ z.resolves)) g.holds;
   few = few_columns u.table (resolved_within z.tables z.change.table z.within z.resolves);
   change = z.change;
   reads = z.reads;

@@ -19,7 +19,7 @@ ghost use Rattle.op_run.specs.Runs.{BoundBy};
 ghost use Rattle.op_run.specs.Stands.{Stands, SomeStands};
 
 use bind_statement::analyze;
-use bind_table::{Resolved, resolve_direct_table};
+use bind_table::resolve_direct_table;
 use image_update::table_of;
 use op_received::received;
 use op_reply::{Reply, class_number, refused};
@@ -44,9 +44,9 @@ fn run_update<'a>(c: &'a [u8], b: &'a [u8], r: &'a [u8], out: &mut [u8]) -> Repl
         → Leaves (update_bytes u r.now (length out.old)) out.old result out.new }
 {
     match resolve_direct_table(c, table_of(b)) {
-        Resolved::At(start, end) => run_over(&c[start..end], b, r, out),
+        Ok(t) => run_over(t, b, r, out),
         // never: the UPDATE is bound
-        Resolved::Refused(q) => refused(12),
+        Err(_) => refused(12),
     }
 }
 

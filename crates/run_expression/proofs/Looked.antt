@@ -7,8 +7,7 @@ use native.Mathlib.Omega.{arith}
 use lib.ListN.{length}
 use Rattle.bytes_bundle.specs.Held.{Is, held}
 use Rattle.catalogue_lookup.specs.declared.Column.{Column}
-use Rattle.catalogue_lookup.specs.declared.Named.{Named}
-use Rattle.catalogue_lookup.specs.declared.Named.TheVariants as named
+use Rattle.std.specs.Prelude.{Option as Maybe, Some, None}
 use Rattle.image_catalogue.specs.Layout.{table}
 use Rattle.catalogue_lookup.specs.Finds.{ColumnIs, FindsColumn}
 use Rattle.image_row.specs.Obeyed.{obeyed_at}
@@ -31,12 +30,12 @@ bound_at : (t : TableSchema) (n : ℕ) (c : ColumnSchema) → (bound_column t n 
 unfolding bound_column
 bound_at t n c = refl
 
-module _ (t r : List ℕ) (n : Text) {q : Named} (found : FindsColumn t n q) where
-  module _ (c : Column) (p : q ≡ named.Is c) where
+module _ (t r : List ℕ) (n : Text) {q : Maybe Column} (found : FindsColumn t n q) where
+  module _ (c : Column) (p : q ≡ Some c) where
     pub stands : Is table t → ObeysTable t r → StandsAt r c.ordinal.0
     stands i o =
         held i (λ v h.
-        let w = subst (ColumnIs t (column_by_name v n)) p (found v h) in
+        let w = subst (ColumnIs (column_by_name v n)) p (found v h) in
         let d = column_of_lem n w.1 in
         let e : c.ordinal.0 ≡ d.position =
         ap (λ (z : Ordinal). z.0) w.2.ordinal ∙ ap (λ (b : BoundColumnRef). b.ordinal.0) d.bound ∙ bound_at v d.position d.column in

@@ -14,7 +14,7 @@ ghost use Rattle.rules.specs.Tables.{TableSchema};
 ghost use Rattle.run_values.specs.Worths.{ordinal, told, heard, value_of, text_size, text_size_of};
 ghost use Rattle.run_expression.specs.Works.{Workable, Works, ObeysTable, StandsAt};
 
-use catalogue_lookup::{Named, find_column};
+use catalogue_lookup::find_column;
 use image_expression::{kind, text};
 use image_row::value_at;
 use rules::Ordinal;
@@ -60,11 +60,8 @@ fn column<'a>(t: &[u8], quoted: bool, name: &[u8], r: &'a [u8]) -> Option<Worth<
     ensures short { text_size_of result < 4294967295 }
 {
     match find_column(t, quoted, name) {
-        Named::Is(c) => {
-            let ordinal = c.ordinal;
-            Some(stored(r, ordinal.0))
-        }
-        Named::Nothing => None,
+        Some(c) => Some(stored(r, c.ordinal.0)),
+        None => None,
     }
 }
 

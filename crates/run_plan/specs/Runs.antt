@@ -134,10 +134,10 @@ module _ (v : TableSchema) (x : Row) (y : Assignment) where
       go none = refl
       go (some u) = refl
 
-  pub land_on : {t e : List ℕ} {w : Worth} {c : Column} → is_fault w ≡ false → Says x e w (told (evaluate v x y.value))
-      → ColumnGiven t (target_column v y.target) c → landing v x y ≡ some c.ordinal.0
+  pub land_on : {e : List ℕ} {w : Worth} {c : Column} → is_fault w ≡ false → Says x e w (told (evaluate v x y.value))
+      → ColumnGiven (target_column v y.target) c → landing v x y ≡ some c.ordinal.0
   unfolding landing
-  land_on {t} {e} {w} {c} f s g =
+  land_on {e} {w} {c} f s g =
       let u = some_value x e s.sound f in
       rw (sym s.value ∙ u.1, target_told v y.target, g.gives) (ap (λ (o : Ordinal). some o.0) (sym g.column.is.ordinal))
 

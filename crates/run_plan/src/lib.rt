@@ -16,7 +16,7 @@ ghost use Rattle.bind_update.specs.Within.{ShortAssignment, ShortAssignments};
 ghost use Rattle.run_plan.specs.Plans.{Plans};
 ghost use Rattle.run_plan.specs.Runs.{Runs, Lands};
 
-use bind_update::{Targeted, target_column};
+use bind_update::target_column;
 use image_update::{target_of, value_of};
 use run_expression::value;
 use run_values::Worth;
@@ -45,11 +45,8 @@ fn land<'a>(t: &'a [u8], a: &'a [u8], r: &'a [u8]) -> Place
         return Place::Nowhere;
     }
     match target_column(t, target_of(a)) {
-        Targeted::Is(c) => {
-            let ordinal = c.ordinal;
-            Place::At(ordinal.0)
-        }
-        Targeted::Refused(class) => Place::Nowhere,
+        Ok(c) => Place::At(c.ordinal.0),
+        Err(_) => Place::Nowhere,
     }
 }
 

@@ -1,6 +1,6 @@
 -- What writing a DELETE asks for, and what its parts make of it.
 -- Assumes nothing.
-use Rattle.std.specs.Prelude.{◌≡◌, refl, List, [], ◌∷◌, ◌++◌, ℕ, ◌+◌, ◌-◌, ◌≤◌, length, take, drop}
+use Rattle.std.specs.Prelude.{◌≡◌, refl, List, [], ◌∷◌, ◌++◌, ℕ, ◌+◌, ◌-◌, ◌≤◌, length}
 use Rattle.std.proofs.Common.{sym, ap, ◌∙◌, subst, arith}
 use Rattle.std.proofs.Math.Option.{some}
 use Rattle.bytes_wire.specs.Le.{Bytes}
@@ -115,11 +115,11 @@ module _ (cat : Catalogue) (v : Delete) (b : BoundStatement) (h : analyze_delete
   pub never_refused : {r : Refusal} → deleted_table cat v ≡ refused r → ⊥
   never_refused e = never_given (sym e ∙ (delete_given cat v b h).found)
 
-  module _ {c : List ℕ} {a z : ℕ} (g : TableGiven c (deleted_table cat v) a z) where
-    pub bound_over : Holds table (take (z - a) (drop a c)) (delete_given cat v b h).schema
+  module _ {found : List ℕ} (g : TableGiven (deleted_table cat v) found) where
+    pub bound_over : Holds table found (delete_given cat v b h).schema
     bound_over =
         let d = delete_given cat v b h in
-        g.lies.holds ∙ ap some (given_same (sym g.gives ∙ d.found))
+        g.holds ∙ ap some (given_same (sym g.gives ∙ d.found))
 
     module _ (d p : List ℕ) (k : (v : Delete) → Holds deletion d v → Holds condition p v.condition) (hv : Holds deletion d v) where
       bound_condition : Holds condition p (some (delete_given cat v b h).tree)
@@ -128,7 +128,7 @@ module _ (cat : Catalogue) (v : Delete) (b : BoundStatement) (h : analyze_delete
       pub bound_tree : Holds expression p (delete_given cat v b h).tree
       bound_tree = condition_holds p (delete_given cat v b h).tree bound_condition
 
-      pub bound_ready : {o : List ℕ} → DeleteWithin d → length (bound_statement.write b) ≤ length o → DeleteReady (take (z - a) (drop a c)) p o
+      pub bound_ready : {o : List ℕ} → DeleteWithin d → length (bound_statement.write b) ≤ length o → DeleteReady found p o
       bound_ready {o} w room =
           let m = delete_given cat v b h in
           record {
@@ -144,7 +144,7 @@ module _ (cat : Catalogue) (v : Delete) (b : BoundStatement) (h : analyze_delete
 
       -- what is written over the table and the condition is the whole
       pub bound_whole : {o o' : List ℕ} {r : ℕ}
-          → ((t : TableSchema) (x : Expr) (y : BoundExpr) → Holds table (take (z - a) (drop a c)) t → Holds expression p x → bind_boolean_filter t x ≡ given y
+          → ((t : TableSchema) (x : Expr) (y : BoundExpr) → Holds table found t → Holds expression p x → bind_boolean_filter t x ≡ given y
           → Wrote o 0 (bound_statement.write (deleted t y)) r o')
           → Wrote o 0 (bound_statement.write b) r o'
       bound_whole f =

@@ -20,7 +20,6 @@ ghost use Rattle.bind_delete.specs.Within.{DeleteWithin};
 ghost use Rattle.write_delete.specs.Writes.{DeleteReady};
 
 use bind_delete::deleted_table;
-use bind_table::Resolved;
 use bind_table_ref::put_table;
 use image_bound::bundles::put_head2;
 use image_bound::fields::put_byte;
@@ -46,8 +45,8 @@ pub fn write_delete(c: &[u8], d: &[u8], out: &mut [u8]) -> usize
         → Wrote out.old 0 (bound_statement.write b) result out.new }
 {
     match deleted_table(c, d) {
-        Resolved::At(start, end) => put_delete(out, &c[start..end], condition_of(d)),
+        Ok(t) => put_delete(out, t, condition_of(d)),
         // never: it is bound over a table
-        Resolved::Refused(_) => 0,
+        Err(_) => 0,
     }
 }

@@ -3,12 +3,11 @@
 use mathlib.Core.Path.{◌≡◌, refl, sym, ap, subst, ◌∙◌}
 use mathlib.Core.Bool.{Bool, true, false}
 use mathlib.Core.List.{List, [], ◌∷◌}
-use Rattle.std.proofs.Common.{Some, None}
 use mathlib.Core.Option.{Option, none, some, some-injective}
 use Prim.Native.Nat.{ℕ, suc, ◌+◌, ◌-◌, ◌≤◌, ◌<◌}
 use native.Mathlib.Decide.{dec_lt}
 use native.Mathlib.Omega.{arith}
-use lib.ListN.{length, take, drop}
+use lib.ListN.{length}
 use lib.IntN.{ℤ}
 use Rattle.bytes_wire.specs.Sets.{Wrote}
 use Rattle.image_value.specs.Parts.{value}
@@ -19,20 +18,19 @@ use Rattle.rules.specs.declared.TableId.{TableId}
 use Rattle.rules.specs.Answers.{fine}
 use Rattle.rules.specs.Statements as leaves
 use Rattle.rules.specs.Bound.{Value, Value.int, Value.text, Value.bool, Value.null, BoundColumnRef, Marked, BoundLeaf}
-use Rattle.rules.specs.Lists.{Text, find}
-use Rattle.rules.specs.Lookup.{bound_column, bound_columns_from, bound_columns, ref_named, column_by_name, column_mark}
+use Rattle.rules.specs.Lists.{Text}
+use Rattle.rules.specs.Lookup.{column_by_name, column_mark}
 use Rattle.rules.specs.Marking.{with, literal_leaf, column_leaf, integer_leaf, leaf_rule}
 use Rattle.rules.specs.Names.{canonical}
 use Rattle.rules.specs.Numbers.{integer_literal}
-use Rattle.rules.specs.Tables.{ColumnSchema, TableSchema}
-use Rattle.rules.proofs.Theorems.Answered.{never_fine, never_some}
+use Rattle.rules.specs.Tables.{TableSchema}
+use Rattle.rules.proofs.Theorems.Answered.{never_fine}
 use Rattle.text_names.specs.Compared.{named}
 use Rattle.text_numbers.specs.Literal as literal
 use Rattle.catalogue_lookup.specs.declared.Column.{Column}
 use Rattle.std.specs.Prelude.{Option as Maybe, Some, None}
 use Rattle.image_catalogue.specs.Layout.{table}
 use Rattle.catalogue_lookup.specs.Finds.{ColumnBound, ColumnIs, FindsColumn}
-use Rattle.image_catalogue.specs.Entries.{find_hit, find_miss}
 use Rattle.image_expression.specs.Expression.{name_of}
 use Rattle.image_expression.specs.Place.{leaf_of}
 use Rattle.bytes_bundle.specs.Held.{Holds}

@@ -1,6 +1,6 @@
 -- Room for each part of a bound INSERT, and the parts put together.
 -- Assumes nothing.
-use Rattle.std.specs.Prelude.{◌≡◌, refl, Bool, List, [], ◌∷◌, ◌++◌, ℕ, ◌-◌, ◌≤◌, length, take, drop}
+use Rattle.std.specs.Prelude.{◌≡◌, refl, Bool, List, [], ◌∷◌, ◌++◌, ℕ, ◌-◌, ◌≤◌, length}
 use Rattle.std.proofs.Common.{sym, ap, ◌∙◌, arith}
 use Rattle.std.proofs.Math.Option.{some}
 use Rattle.bytes_wire.specs.Sets.{Wrote, then}
@@ -170,10 +170,10 @@ module _ {t i o : List ℕ} (w : InsertRoom t i o) where
 
 -- ---- by the catalogue
 
-module _ {c i : List ℕ} {a e : ℕ} where
-  -- the table that the statement names lies in the catalogue from a to e
-  pub insert_room : {o : List ℕ} (w : Bindable insertion bound_statement analyze_insert c i o) → TableGiven c (named_table w.tables w.statement.name) a e
-      → InsertRoom (take (e - a) (drop a c)) i o
+module _ {i p : List ℕ} where
+  -- p has the table that the statement names
+  pub insert_room : {c o : List ℕ} (w : Bindable insertion bound_statement analyze_insert c i o) → TableGiven (named_table w.tables w.statement.name) p
+      → InsertRoom p i o
   insert_room w g =
       let z = analyzed w.tables w.statement w.gives in
       let y = into_parts z.table w.statement z.into in
@@ -181,7 +181,7 @@ module _ {c i : List ℕ} {a e : ℕ} where
       let n : length (bound_statement.write w.value) ≡ length (bound_statement.write (bound_insert y.value)) = ap (λ (x : BoundStatement). length (bound_statement.write x)) y.is in
       record {
         schema = z.table;
-        holds = g.lies.holds ∙ ap some q;
+        holds = g.holds ∙ ap some q;
         statement = w.statement;
         reads = w.reads;
         bound = y.value;
@@ -189,13 +189,13 @@ module _ {c i : List ℕ} {a e : ℕ} where
         room = omega (arith, w.room, n);
       }
 
-  pub insert_wrote : {o o' : List ℕ} {r : ℕ} (cat : Catalogue) (v : Insert) {b : BoundStatement} → Writes (take (e - a) (drop a c)) i o r o'
-      → TableGiven c (named_table cat v.name) a e → Holds insertion i v → analyze_insert cat v ≡ given b → Wrote o 0 (bound_statement.write b) r o'
+  pub insert_wrote : {o o' : List ℕ} {r : ℕ} (cat : Catalogue) (v : Insert) {b : BoundStatement} → Writes p i o r o'
+      → TableGiven (named_table cat v.name) p → Holds insertion i v → analyze_insert cat v ≡ given b → Wrote o 0 (bound_statement.write b) r o'
   insert_wrote cat v w g h k =
       let z = analyzed cat v k in
       let y = into_parts z.table v z.into in
       let q : g.value ≡ z.table = given_once (sym g.gives ∙ z.named) in
-      spelt (ap bound_statement.write (sym y.is)) (w.at z.table v y.value (g.lies.holds ∙ ap some q) h y.parts)
+      spelt (ap bound_statement.write (sym y.is)) (w.at z.table v y.value (g.holds ∙ ap some q) h y.parts)
 
 -- a table is found
 pub insert_never : {c i o : List ℕ} {k : Refusal} (w : Bindable insertion bound_statement analyze_insert c i o) → named_table w.tables w.statement.name ≡ refused k → ⊥

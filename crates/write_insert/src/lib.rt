@@ -16,7 +16,7 @@ ghost use Rattle.bind_table.specs.Room.{Bindable};
 ghost use Rattle.bind_insert.specs.Within.{InsertWithin};
 ghost use Rattle.write_insert.specs.Written.{HasRows, Rows, InsertRoom, Writes};
 
-use bind_table::{Resolved, name_table};
+use bind_table::name_table;
 use bind_table_ref::put_table;
 use image_bound::bundles::put_head3;
 use image_bound::fields::put_byte;
@@ -53,8 +53,8 @@ pub fn write_insert(c: &[u8], i: &[u8], out: &mut [u8]) -> usize
         → analyze_insert cat v ≡ given b → Wrote out.old 0 (bound_statement.write b) result out.new }
 {
     match name_table(c, image_insert::table_name(i)) {
-        Resolved::At(start, end) => write_into(&c[start..end], i, out),
+        Ok(t) => write_into(t, i, out),
         // never: the table is found
-        Resolved::Refused(_) => 0,
+        Err(_) => 0,
     }
 }

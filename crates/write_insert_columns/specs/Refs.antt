@@ -1,27 +1,24 @@
 -- The column that a name of an INSERT stands for, as it is found in the table's image and written.
 -- Assumes nothing.
-use Rattle.std.specs.Prelude.{◌≡◌, refl, Bool, true, false, List, [], ◌∷◌, ℕ, suc, ◌+◌, ◌-◌, ◌≤◌, length, Option as Maybe, Some, None}
+use Rattle.std.specs.Prelude.{◌≡◌, refl, List, ℕ, ◌+◌, ◌≤◌, length, Option as Maybe, Some, None}
 use Rattle.std.proofs.Common.{sym, ap, ◌∙◌, subst, arith}
-use Rattle.std.proofs.Math.Option.{Option, some, some-injective}
+use Rattle.std.proofs.Math.Option.{Option}
 use Rattle.bytes_wire.specs.Sets.{Wrote}
 use Rattle.bytes_format.proofs.Formats.{list_of}
-use Rattle.bytes_bundle.specs.Held.{Holds, held}
+use Rattle.bytes_bundle.specs.Held.{Holds}
 use Rattle.catalogue_lookup.specs.declared.Column.{Column}
 use Rattle.image_catalogue.specs.Layout.{table}
-use Rattle.catalogue_lookup.specs.Finds.{ColumnBound, ColumnIs, FindsColumn}
-use Rattle.image_catalogue.specs.Entries.{find_hit, find_miss}
+use Rattle.catalogue_lookup.specs.Finds.{ColumnIs, FindsColumn}
 use Rattle.image_parts.specs.Layout.{name}
 use Rattle.rules.specs.declared.Class.TheVariants.{SchemaMismatch}
 use Rattle.rules.specs.declared.TableId.{TableId}
-use Rattle.rules.specs.Lists.{Text, find}
 use Rattle.rules.specs.Answers.{Answer, given, found, each}
-use Rattle.rules.specs.Tables.{ColumnSchema, TableSchema}
+use Rattle.rules.specs.Tables.{TableSchema}
 use Rattle.rules.specs.Bound.{BoundColumnRef}
-use Rattle.rules.specs.Lookup.{bound_column, bound_columns_from, bound_columns, ref_named, column_by_name}
+use Rattle.rules.specs.Lookup.{column_by_name}
 use Rattle.rules.specs.Names.{canonical}
 use Rattle.rules.specs.Statements.{Name}
 use Rattle.image_bound.specs.Columns.{bound_column_ref}
-use Rattle.image_bound.specs.Made.{column_ref}
 use Rattle.image_bound.specs.Spelt.{column_ref_length}
 use Rattle.write_expression.specs.Found.{ref_of, ref_is, column_owner}
 use Rattle.write_insert_rows.specs.Listing.{Gives, Puts, puts, gives_room, gives_never, Listing}

@@ -1,6 +1,6 @@
 -- What writing a SELECT asks for, and what its parts make of it.
 -- Assumes nothing.
-use Rattle.std.specs.Prelude.{◌≡◌, refl, false, List, [], ◌∷◌, ◌++◌, ℕ, ◌+◌, ◌-◌, ◌≤◌, length, take, drop}
+use Rattle.std.specs.Prelude.{◌≡◌, refl, false, List, [], ◌∷◌, ◌++◌, ℕ, ◌+◌, ◌-◌, ◌≤◌, length}
 use Rattle.std.proofs.Common.{sym, ap, ◌∙◌, subst, arith}
 use Rattle.std.proofs.Math.Option.{Option, none, some}
 use Rattle.bytes_wire.specs.Le.{Bytes}
@@ -198,11 +198,11 @@ module _ (q p s : List ℕ) (body : (v : Query) → Holds layout.selection q v �
   pub never_refused : {r : Refusal} → selected_table cat (select_given cat v b h).value ≡ refused r → ⊥
   never_refused e = never_given (sym e ∙ (select_given cat v b h).found)
 
-  module _ {c : List ℕ} {a z : ℕ} (g : TableGiven c (selected_table cat (select_given cat v b h).value) a z) where
-    bound_over : Holds table (take (z - a) (drop a c)) (select_given cat v b h).schema
-    bound_over = g.lies.holds ∙ ap some (given_same (sym g.gives ∙ (select_given cat v b h).found))
+  module _ {found : List ℕ} (g : TableGiven (selected_table cat (select_given cat v b h).value) found) where
+    bound_over : Holds table found (select_given cat v b h).schema
+    bound_over = g.holds ∙ ap some (given_same (sym g.gives ∙ (select_given cat v b h).found))
 
-    pub bound_ready : {o : List ℕ} → QueryWithin q → length (bound_statement.write b) ≤ length o → SelectReady (take (z - a) (drop a c)) s o
+    pub bound_ready : {o : List ℕ} → QueryWithin q → length (bound_statement.write b) ≤ length o → SelectReady found s o
     bound_ready {o} w room =
         let m = select_given cat v b h in
         record {
@@ -220,7 +220,7 @@ module _ (q p s : List ℕ) (body : (v : Query) → Holds layout.selection q v �
 
     -- what is written over the table is the whole
     pub bound_whole : {o o' : List ℕ} {r : ℕ}
-        → ((t : TableSchema) (x : Select) (cs : List BoundColumnRef) (f : Option BoundExpr) → Holds table (take (z - a) (drop a c)) t → Holds layout.select s x
+        → ((t : TableSchema) (x : Select) (cs : List BoundColumnRef) (f : Option BoundExpr) → Holds table found t → Holds layout.select s x
         → projection t x.items ≡ given cs → filter_if_there t x.condition ≡ given f → Wrote o 0 (bound_statement.write (selected t cs f)) r o')
         → Wrote o 0 (bound_statement.write b) r o'
     bound_whole f =

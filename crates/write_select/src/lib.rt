@@ -19,7 +19,6 @@ ghost use Rattle.bind_select.specs.Within.{QueryWithin};
 ghost use Rattle.write_select.specs.Writes.{FilterRoom, SelectReady};
 
 use bind_select::selected_table;
-use bind_table::Resolved;
 use bind_table_ref::put_table;
 use image_bound::bundles::put_head3;
 use image_bound::fields::put_byte;
@@ -62,8 +61,8 @@ pub fn write_select(c: &[u8], q: &[u8], out: &mut [u8]) -> usize
 {
     let s = select_of(body_of(q));
     match selected_table(c, s) {
-        Resolved::At(start, end) => put_select(out, &c[start..end], s),
+        Ok(t) => put_select(out, t, s),
         // never: it is bound over a table
-        Resolved::Refused(_) => 0,
+        Err(_) => 0,
     }
 }

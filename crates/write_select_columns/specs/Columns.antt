@@ -1,6 +1,6 @@
 -- Columns of a table, written: one by its image in the table, one by its name, all of them.
 -- Assumes nothing.
-use Rattle.std.specs.Prelude.{◌≡◌, refl, Bool, true, false, List, [], ◌∷◌, ◌++◌, ℕ, suc, ◌+◌, ◌-◌, ◌≤◌, length, take, drop, Option as Maybe, Some, None}
+use Rattle.std.specs.Prelude.{◌≡◌, refl, Bool, List, [], ◌∷◌, ◌++◌, ℕ, suc, ◌+◌, ◌-◌, ◌≤◌, length, drop, Option as Maybe, Some, None}
 use Rattle.std.proofs.Common.{sym, ap, ap₂, ◌∙◌, subst, add-one, arith, length-append, drop_of_length-le}
 use Rattle.std.proofs.Math.Option.{some, some-injective, none-ne-some}
 use Rattle.bytes_format.proofs.Formats.{list_of}
@@ -12,20 +12,18 @@ use Rattle.image_bound.specs.Made.{column_ref}
 use Rattle.image_bound.specs.Spelt.{column_ref_length}
 use Rattle.image_bound.specs.Written.{spelt}
 use Rattle.catalogue_lookup.specs.declared.Column.{Column}
-use Rattle.catalogue_lookup.specs.Finds.{ColumnBound, ordinal_of}
-use Rattle.image_catalogue.specs.Entries.{find_hit, find_miss}
+use Rattle.catalogue_lookup.specs.Finds.{ordinal_of}
 use Rattle.image_catalogue.specs.Layout.{table}
 use Rattle.bind_table.specs.Short.{ShortText}
 use Rattle.rules.specs.declared.ColumnId.{ColumnId}
 use Rattle.rules.specs.declared.DataType.{DataType}
 use Rattle.rules.specs.declared.TableId.{TableId}
 use Rattle.rules.specs.Bound.{BoundColumnRef}
-use Rattle.rules.specs.Lists.{Text, find}
-use Rattle.rules.specs.Lookup.{bound_column, bound_columns_from, bound_columns, ref_named, column_by_name}
+use Rattle.rules.specs.Lookup.{bound_column, bound_columns_from, bound_columns, column_by_name}
 use Rattle.rules.specs.Names.{canonical}
 use Rattle.rules.specs.Statements.{Name}
 use Rattle.rules.specs.Tables.{ColumnSchema, TableSchema}
-use Rattle.bind_select.specs.Columns.{Calls, called_found, called_unknown, called_name}
+use Rattle.bind_select.specs.Columns.{Calls, called_found, called_unknown}
 use Rattle.image_parts.specs.Layout.{name}
 use Rattle.image_value.specs.Parts.{column_schema}
 use Rattle.write_expression.specs.Found.{ref_of, ref_is, column_owner}

@@ -1,9 +1,8 @@
 -- What a bound UPDATE tells of the steps that made it.
 -- Assumes nothing.
-use Rattle.std.specs.Prelude.{◌≡◌, refl, Bool, true, false, List, [], ◌∷◌, ℕ, zero, suc, ◌+◌, length, drop}
+use Rattle.std.specs.Prelude.{◌≡◌, refl, List, [], ◌∷◌, ℕ, zero, suc, ◌+◌, length, drop}
 use Rattle.std.proofs.Common.{sym, ap, ◌∙◌, subst, arith, length-drop}
-use Rattle.std.proofs.Math.Option.{Option, some, some-injective, none-ne-some}
-use Rattle.image_catalogue.specs.Entries.{find_hit, find_miss}
+use Rattle.std.proofs.Math.Option.{Option, some}
 use Rattle.bind_table.specs.Steps.{step_on}
 use Rattle.rules.specs.declared.Class.TheVariants.{SchemaMismatch, ConstraintViolation, UnsupportedSql, InvalidArgument}
 use Rattle.rules.specs.declared.ColumnId.{ColumnId}
@@ -11,13 +10,14 @@ use Rattle.rules.specs.Answers.{given, found}
 use Rattle.rules.specs.Analyze.{target_name, assignment, assignments, resolve_direct_table, analyze_update}
 use Rattle.rules.specs.Bound.{BoundColumnRef, BoundExpr, mark_of, BoundAssignment, BoundStatement}
 use Rattle.rules.specs.Fits.{bind_boolean_filter, fit}
-use Rattle.rules.specs.Lists.{is_empty, any, find}
-use Rattle.rules.specs.Lookup.{bound_column, bound_columns_from, bound_columns, ref_named, column_by_name, in_key}
+use Rattle.rules.specs.Lists.{is_empty, any}
+use Rattle.rules.specs.Lookup.{column_by_name, in_key}
 use Rattle.rules.specs.Marking.{bind_expression}
 use Rattle.rules.specs.Statements.{Target, Assignment, Update, Expr}
-use Rattle.rules.specs.Tables.{ColumnSchema, TableSchema, Catalogue, same_id}
+use Rattle.rules.specs.Tables.{TableSchema, Catalogue, same_id}
 use Rattle.rules.proofs.Theorems.Steps.{step, step_found, step_past, step_fine}
 use Rattle.bind_update.specs.Targets.{target_column, column_named_lem}
+use Rattle.write_expression.specs.Found.{column_owner}
 use Rattle.bind_update.specs.Updated.{updated, update_table}
 
 pub given_same : {A : Type 0} {a b : A} → given a ≡ given b → a ≡ b
@@ -25,21 +25,8 @@ given_same h = cc
 
 -- ---- a target's column is one of its table
 
-found_owner : (v : TableSchema) (p : BoundColumnRef → Bool) (n : ℕ) (cs : List ColumnSchema) {b : BoundColumnRef} → find p (bound_columns_from v n cs) ≡ some b → b.table_id ≡ v.id
-unfolding bound_columns_from bound_column
-found_owner v p n [] {b} h = absurd (none-ne-some b h)
-found_owner v p n (c ∷ cs) {b} h = go (p (bound_column v n c)) refl (found_owner v p (suc n) cs)
-  where
-    l : List BoundColumnRef
-    l = bound_columns_from v (suc n) cs
-
-    go : (t : Bool) → p (bound_column v n c) ≡ t → (find p l ≡ some b → b.table_id ≡ v.id) → b.table_id ≡ v.id
-    go true e rest = ap (λ (x : BoundColumnRef). x.table_id) (sym (some-injective (bound_column v n c) b (sym (find_hit p (bound_column v n c) l e) ∙ h)))
-    go false e rest = rest (sym (find_miss p (bound_column v n c) l e) ∙ h)
-
 pub target_owner : (v : TableSchema) (g : Target) {c : BoundColumnRef} → target_column v g ≡ given c → c.table_id ≡ v.id
-unfolding column_by_name bound_columns
-target_owner v g e = let n = column_named_lem v g e in found_owner v (ref_named n.0) 0 v.columns n.2
+target_owner v g e = let n = column_named_lem v g e in column_owner v n.0 n.2
 
 -- ---- an assignment
 

@@ -22,7 +22,7 @@ use Rattle.bind_update.specs.Updated.{update_table}
 use Rattle.bind_update.specs.Within.{ShortAssignment, ShortAssignments}
 use Rattle.write_update.specs.Given.{AssignmentGiven}
 
--- the value e, given to a column that was found in t
+-- the value e, given to a column that was found in the table t
 pub record AssignedRoom (t e : List ℕ) (column : Column) (o : List ℕ) (at : ℕ) : Type 0 where
   pub schema : TableSchema
   pub holds : Holds table t schema
@@ -30,7 +30,7 @@ pub record AssignedRoom (t e : List ℕ) (column : Column) (o : List ℕ) (at : 
   pub tree : Expr
   pub reads : Holds image.expression e tree
   pub ref : BoundColumnRef
-  pub is : ColumnBound t column ref
+  pub is : ColumnBound column ref
   pub value : BoundExpr
   pub binds : bind_expression schema tree ≡ given value
   pub room : at + length ((layout.assignment).write (assigned ref value)) ≤ length o

@@ -1,6 +1,6 @@
 -- The whole UPDATE, written: its code, the head of a record, and its three parts.
 -- Assumes nothing.
-use Rattle.std.specs.Prelude.{◌≡◌, refl, List, [], ◌∷◌, ◌++◌, ℕ, ◌+◌, ◌-◌, ◌≤◌, length, take, drop}
+use Rattle.std.specs.Prelude.{◌≡◌, refl, List, [], ◌∷◌, ◌++◌, ℕ, ◌+◌, ◌-◌, ◌≤◌, length}
 use Rattle.std.proofs.Common.{sym, ap, ◌∙◌, arith}
 use Rattle.std.proofs.Math.Option.{some}
 use Rattle.bytes_wire.specs.Le.{Bytes}
@@ -112,15 +112,15 @@ module _ {c u o : List ℕ} (i : Is updating u) (l : Limited u) (r : Bindable up
   abbrev steps : UpdateGiven r.tables r.statement r.value
   steps = update_given r.tables r.statement r.gives
 
-  pub table_room : {s w : List ℕ} {b e : ℕ} → TableGiven c (resolve_direct_table r.tables r.statement.table) b e
+  pub table_room : {t s w : List ℕ} → TableGiven (resolve_direct_table r.tables r.statement.table) t
       → ((v : Update) → Holds updating u v → Holds (list_of 2 assignment) s v.assignments) → ((v : Update) → Holds updating u v → Holds condition w v.condition)
-      → TableRoom (take (e - b) (drop b c)) s w o
+      → TableRoom t s w o
   table_room {w = w} g k f =
       let z : g.value ≡ steps.schema = given_same (sym g.gives ∙ steps.resolved) in
       let y : There w = record { value = steps.condition; holds = f r.statement r.reads ∙ ap some steps.conditioned } in
       record {
         schema = g.value;
-        holds = g.lies.holds;
+        holds = g.holds;
         names = update_assignments l i k;
         list = r.statement.assignments;
         reads = k r.statement r.reads;
@@ -133,13 +133,13 @@ module _ {c u o : List ℕ} (i : Is updating u) (l : Limited u) (r : Bindable up
       }
 
 -- what is written over the table is the whole
-pub wrote_whole : {c o o' : List ℕ} {b e n : ℕ} (s w : List ℕ) (cat : Catalogue) (v : Update) (d : BoundStatement) → TableGiven c (resolve_direct_table cat v.table) b e
+pub wrote_whole : {t o o' : List ℕ} {n : ℕ} (s w : List ℕ) (cat : Catalogue) (v : Update) (d : BoundStatement) → TableGiven (resolve_direct_table cat v.table) t
     → Holds (list_of 2 assignment) s v.assignments → Holds condition w v.condition
-    → ((t : TableSchema) (xs : List Assignment) (x : Expr) (d : BoundStatement) → Holds table (take (e - b) (drop b c)) t → Holds (list_of 2 assignment) s xs → Holds expression w x
-    → update_table t xs x ≡ given d → Wrote o 0 (bound_statement.write d) n o')
+    → ((y : TableSchema) (xs : List Assignment) (x : Expr) (d : BoundStatement) → Holds table t y → Holds (list_of 2 assignment) s xs → Holds expression w x
+    → update_table y xs x ≡ given d → Wrote o 0 (bound_statement.write d) n o')
     → analyze_update cat v ≡ given d → Wrote o 0 (bound_statement.write d) n o'
 wrote_whole s w cat v d g hs hw k h =
     let y = update_given cat v h in
     let z : g.value ≡ y.schema = given_same (sym g.gives ∙ y.resolved) in
-    k g.value v.assignments y.condition d g.lies.holds hs (there_reads (record { value = y.condition; holds = hw ∙ ap some y.conditioned }))
+    k g.value v.assignments y.condition d g.holds hs (there_reads (record { value = y.condition; holds = hw ∙ ap some y.conditioned }))
     (ap (λ (t : TableSchema). update_table t v.assignments y.condition) z ∙ y.updates)

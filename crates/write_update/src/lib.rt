@@ -26,9 +26,9 @@ ghost use Rattle.bind_update.specs.Within.{Limited};
 ghost use Rattle.write_update.specs.Given.{AssignmentGiven};
 ghost use Rattle.write_update.specs.Room.{AssignedRoom, AssignmentRoom, AssignmentsRoom, TableRoom};
 
-use bind_table::{Resolved, resolve_direct_table};
+use bind_table::resolve_direct_table;
 use bind_table_ref::put_table;
-use bind_update::{Targeted, target_column};
+use bind_update::target_column;
 use catalogue_lookup::Column;
 use image_bound::bundles::{put_head2, put_head3};
 use image_bound::fields::{put_byte, put_count};
@@ -38,16 +38,14 @@ use write_expression::columns::put_found;
 use write_expression::put_expression;
 
 // A column and the value that it is given: a record of two parts.
-fn put_assigned(out: &mut [u8], at: usize, t: &[u8], e: &[u8], column: Column) -> usize
+fn put_assigned(out: &mut [u8], at: usize, t: &[u8], e: &[u8], column: Column<'_>) -> usize
     requires { AssignedRoom t.now e.now column out.old at }
     ensures { (v : TableSchema) (x : Expr) (c : BoundColumnRef) (y : BoundExpr) → Holds table t.now v
-        → Holds expression e.now x → ColumnBound t.now column c → c.table_id ≡ v.id → bind_expression v x ≡ given y
+        → Holds expression e.now x → ColumnBound column.entry c → c.table_id ≡ v.id → bind_expression v x ≡ given y
         → Wrote out.old at ((layout.assignment).write (assigned c y)) result out.new }
 {
     let first = at + 12;
-    let start = column.start;
-    let stop = column.end;
-    let second = put_found(out, first, table_id(t), column, &t[start..stop]);
+    let second = put_found(out, first, table_id(t), column);
     let end = put_expression(out, second, t, e);
     put_head2(out, at, second - first, end - second);
     end
@@ -59,9 +57,9 @@ fn put_assignment(out: &mut [u8], at: usize, t: &[u8], a: &[u8]) -> usize
         → Holds assignment a.now x → AssignmentGiven v x b → Wrote out.old at ((layout.assignment).write b) result out.new }
 {
     match target_column(t, target_of(a)) {
-        Targeted::Is(c) => put_assigned(out, at, t, value_of(a), c),
+        Ok(c) => put_assigned(out, at, t, value_of(a), c),
         // never: the assignment is bound
-        Targeted::Refused(class) => at,
+        Err(_) => at,
     }
 }
 
@@ -112,13 +110,8 @@ pub fn write_update(c: &[u8], u: &[u8], out: &mut [u8]) -> usize
         → analyze_update cat v ≡ given b → Wrote out.old 0 (bound_statement.write b) result out.new }
 {
     match resolve_direct_table(c, table_of(u)) {
-        Resolved::At(start, end) => put_update(
-            out,
-            &c[start..end],
-            assignments(u),
-            condition_of(u),
-        ),
+        Ok(t) => put_update(out, t, assignments(u), condition_of(u)),
         // never: the UPDATE is bound
-        Resolved::Refused(r) => 0,
+        Err(_) => 0,
     }
 }

@@ -1,7 +1,6 @@
 -- `bind_insert_columns::bind_columns` meets its contract. The invariant: the columns so far are bound and their bytes stand in the array.
 use mathlib.Core.Path.{refl, sym, ap, ◌∙◌}
 use native.Mathlib.Omega.{arith}
-use lib.ListN.{length}
 use Rattle.bytes_bundle.specs.Held.{along, along_on, list_bundle}
 use Rattle.image_parts.specs.Layout.{name}
 use Rattle.bind_insert_columns.specs.Columns.{name_part, column_within, bound_off, binding, bind_repeated, bind_unknown, bind_more, bind_end}

@@ -1,8 +1,6 @@
 -- `bind_update::analyze_update` meets its contract: the rules' tests in their order.
 use mathlib.Core.Path.{◌≡◌, sym, ◌∙◌}
 use mathlib.Core.Bool.{false}
-use Prim.Native.Nat.{◌≤◌}
-use lib.ListN.{length}
 use Rattle.bytes_bundle.specs.Held.{Holds, is_held, held, list_bundle, list_count}
 use Rattle.image_bound.specs.Layout.{bound_statement}
 use Rattle.image_catalogue.specs.Layout.{catalogue}

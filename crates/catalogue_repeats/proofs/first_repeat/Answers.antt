@@ -12,11 +12,11 @@ use native.Mathlib.Omega.{arith}
 use Rattle.catalogue_repeats.proofs.first_repeat.Goals.{After-next-end}
 use Rattle.catalogue_repeats.proofs.first_repeat.Goals as goal
 
-pub loop-i-init : goal.loop-i-init
-loop-i-init c = (record { bundle = c.requires.0; count = c.parts-n.ensures; here = c.first-at.ensures }, refl)
+pub search-init : goal.search-init
+search-init c = (record { bundle = c.requires.0; count = c.parts-n.ensures; here = c.first-at.ensures }, refl, refl)
 
 pub loop-j-init : goal.loop-j-init
-loop-j-init c = (along_on c.loop-i.invariant.0 c.next-end.ensures, search rules, refl)
+loop-j-init c = (along_on c.search.invariant.0 c.next-end.ensures, search rules, c.search.invariant.1, refl)
 
 pub next-to-requires : goal.next-to-requires
 next-to-requires c = let a = c.loop-j.invariant.0 in (search rules, a.bundle, a.here, omega (arith, a.count, c.loop-j-test.true))
@@ -26,35 +26,36 @@ alike-requires c = (told_part c.next-end.ensures c.requires.1, told_part c.next-
 
 -- the entry at hand, and what it is compared with
 abbrev entry : (c : After-next-end) → List ℕ
-entry c = take (c.next-end.result - c.loop-i.at) (drop c.loop-i.at c.args.s.now)
+entry c = take (c.next-end.result - c.search.at) (drop c.search.at c.args.s.now)
 
 abbrev like : (c : After-next-end) → List ℕ → Bool
 like c = alike_by c.args.by (entry c)
 
 abbrev rest : (c : After-next-end) → List (List ℕ)
-rest c = drop (c.loop-i.i + 1) (parts_of 2 c.args.s.now)
+rest c = drop (c.search.i + 1) (parts_of 2 c.args.s.now)
 
 pub loop-j-preserved : goal.loop-j-preserved
 loop-j-preserved c =
     let d = c.next-to.ensures in
-    (along_on c.loop-j.invariant.0 d, search rules, c.loop-j.invariant.2 ∙ any_on (like (goal.at.loop-j-preserved c).After-next-end) d (sym c.alike.ensures ∙ c.if-alike.false))
+    (along_on c.loop-j.invariant.0 d, search rules, c.loop-j.invariant.2, c.loop-j.invariant.3 ∙ any_on (like (goal.at.loop-j-preserved c).After-next-end) d (sym c.alike.ensures ∙ c.if-alike.false))
 
-pub loop-i-preserved : goal.loop-i-preserved
-loop-i-preserved c =
+pub search-preserved : goal.search-preserved
+search-preserved c =
     let by = c.args.by in (
-      along_on c.loop-i.invariant.0 c.next-end.ensures,
-      c.loop-i.invariant.1 ∙ ap (first_repeated (alike_by by) c.loop-i.i) (step_cons c.next-end.ensures)
-          ∙ repeat_pass (alike_by by) c.loop-i.i (entry (goal.at.loop-i-preserved c).After-next-end) (rest (goal.at.loop-i-preserved c).After-next-end) (c.loop-j.invariant.2 ∙ any_over (like (goal.at.loop-i-preserved c).After-next-end) c.loop-j.invariant.0 c.loop-j-test.false),
+      along_on c.search.invariant.0 c.next-end.ensures,
+      c.loop-j.invariant.2,
+      c.search.invariant.2 ∙ ap (first_repeated (alike_by by) c.search.i) (step_cons c.next-end.ensures)
+          ∙ repeat_pass (alike_by by) c.search.i (entry (goal.at.search-preserved c).After-next-end) (rest (goal.at.search-preserved c).After-next-end) (c.loop-j.invariant.3 ∙ any_over (like (goal.at.search-preserved c).After-next-end) c.loop-j.invariant.0 c.loop-j-test.false),
     )
 
-pub returns : goal.returns
-returns c =
+pub returns-after-search : goal.returns-after-search
+returns-after-search c =
     let a = c.args in
-    let z : length (parts_of 2 a.s.now) ≤ c.loop-i.i = omega (arith, c.loop-i.invariant.0.count, c.loop-i-test.false) in
-    sym (c.loop-i.invariant.1 ∙ repeat_end (alike_by a.by) c.loop-i.i (parts_of 2 a.s.now) z)
+    let z : length (parts_of 2 a.s.now) ≤ c.search.i = omega (arith, c.search.invariant.0.count, c.search-test.false) in
+    c.search.invariant.1 ∙ sym (c.search.invariant.2 ∙ repeat_end (alike_by a.by) c.search.i (parts_of 2 a.s.now) z)
 
 pub returns-then-alike : goal.returns-then-alike
 returns-then-alike c =
     let by = c.args.by in
-    sym (c.loop-i.invariant.1 ∙ ap (first_repeated (alike_by by) c.loop-i.i) (step_cons c.next-end.ensures)
-    ∙ repeat_hit (alike_by by) c.loop-i.i (entry (goal.at.returns-then-alike c).After-next-end) (rest (goal.at.returns-then-alike c).After-next-end) (c.loop-j.invariant.2 ∙ any_found (like (goal.at.returns-then-alike c).After-next-end) c.next-to.ensures (sym c.alike.ensures ∙ c.if-alike.true)))
+    sym (c.search.invariant.2 ∙ ap (first_repeated (alike_by by) c.search.i) (step_cons c.next-end.ensures)
+    ∙ repeat_hit (alike_by by) c.search.i (entry (goal.at.returns-then-alike c).After-next-end) (rest (goal.at.returns-then-alike c).After-next-end) (c.loop-j.invariant.3 ∙ any_found (like (goal.at.returns-then-alike c).After-next-end) c.next-to.ensures (sym c.alike.ensures ∙ c.if-alike.true)))

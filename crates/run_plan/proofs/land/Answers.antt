@@ -17,11 +17,11 @@ target_column-requires c =
     let p = c.requires in
     (p.0.schema, assignment_target_lem p.1 c.target_of.ensures)
 
-pub returns-in-Is : goal.returns-in-Is
-returns-in-Is c = λ v x y hv hx hy.
-    let g = targeted_is _ (target_column v y.target) (c.target_column.ensures v y.target hv (c.target_of.ensures y hy)) c.in-Is.is in
+pub returns-in-Ok : goal.returns-in-Ok
+returns-in-Ok c = λ v x y hv hx hy.
+    let g = targeted_is (target_column v y.target) (c.target_column.ensures v y.target hv (c.target_of.ensures y hy)) c.in-Ok.is in
     ap placed (sym (land_on v x y (sym c.is_fault.ensures ∙ c.if-is_fault.false) (c.work_out.ensures v hv x hx y.value (c.value_of.ensures y hy)) g))
 
-pub returns-in-Refused : goal.returns-in-Refused
-returns-in-Refused c = λ v x y hv hx hy.
-    ap placed (sym (land_off v x y (targeted_off _ (target_column v y.target) (c.target_column.ensures v y.target hv (c.target_of.ensures y hy)) c.in-Refused.is)))
+pub returns-in-Err : goal.returns-in-Err
+returns-in-Err c = λ v x y hv hx hy.
+    ap placed (sym (land_off v x y (targeted_off (target_column v y.target) (c.target_column.ensures v y.target hv (c.target_of.ensures y hy)) c.in-Err.is)))

@@ -2,7 +2,7 @@
 use Rattle.bytes_bundle.specs.Held.{is_held}
 use Rattle.image_catalogue.specs.Layout.{catalogue}
 use Rattle.image_catalogue.specs.Values.{catalogue_list, catalogue_tables}
-use Rattle.bind_table.specs.Steps.{resolved_at, resolved_off}
+use Rattle.bind_table.specs.Steps.{resolved_is, resolved_off}
 use Rattle.write_delete.specs.Writes.{bound_ready, bound_whole, never_refused}
 use Rattle.write_delete.proofs.write_delete.Goals as goal
 
@@ -10,21 +10,6 @@ pub deleted_table-requires : goal.deleted_table-requires
 deleted_table-requires c =
     let p = c.requires in
     (catalogue_list (is_held {f = catalogue} p.1.holds), p.0)
-
-pub slice_bounds-put_delete-count : goal.slice_bounds-put_delete-count
-slice_bounds-put_delete-count c =
-    let w = c.requires.1 in
-    (resolved_at _ _ (c.deleted_table.ensures w.tables w.statement (catalogue_tables _ w.holds) w.reads) c.in-At.is).lies.forth
-
-pub slice_bounds-put_delete-start : goal.slice_bounds-put_delete-start
-slice_bounds-put_delete-start c =
-    let w = c.requires.1 in
-    (resolved_at _ _ (c.deleted_table.ensures w.tables w.statement (catalogue_tables _ w.holds) w.reads) c.in-At.is).lies.forth
-
-pub slice_bounds-put_delete-end : goal.slice_bounds-put_delete-end
-slice_bounds-put_delete-end c =
-    let w = c.requires.1 in
-    (resolved_at _ _ (c.deleted_table.ensures w.tables w.statement (catalogue_tables _ w.holds) w.reads) c.in-At.is).lies.within
 
 pub condition_of-requires : goal.condition_of-requires
 condition_of-requires c = c.requires.0.is
@@ -34,15 +19,15 @@ put_delete-requires c =
     let p = c.requires in
     let w = p.1 in
     bound_ready w.tables w.statement w.value w.gives
-    (resolved_at _ _ (c.deleted_table.ensures w.tables w.statement (catalogue_tables _ w.holds) w.reads) c.in-At.is)
+    (resolved_is _ (c.deleted_table.ensures w.tables w.statement (catalogue_tables _ w.holds) w.reads) c.in-Ok.is)
     _ _ c.condition_of.ensures w.reads p.0 w.room
 
-pub returns-in-At : goal.returns-in-At
-returns-in-At c = λ cat v b hc hv h.
+pub returns-in-Ok : goal.returns-in-Ok
+returns-in-Ok c = λ cat v b hc hv h.
     bound_whole cat v b h
-    (resolved_at _ _ (c.deleted_table.ensures cat v (catalogue_tables _ hc) hv) c.in-At.is)
+    (resolved_is _ (c.deleted_table.ensures cat v (catalogue_tables _ hc) hv) c.in-Ok.is)
     _ _ c.condition_of.ensures hv c.put_delete.ensures
 
-pub returns-in-Refused : goal.returns-in-Refused
-returns-in-Refused c = λ cat v b hc hv h.
-    absurd (never_refused cat v b h (resolved_off _ _ (c.deleted_table.ensures cat v (catalogue_tables _ hc) hv) c.in-Refused.is))
+pub returns-in-Err : goal.returns-in-Err
+returns-in-Err c = λ cat v b hc hv h.
+    absurd (never_refused cat v b h (resolved_off _ (c.deleted_table.ensures cat v (catalogue_tables _ hc) hv) c.in-Err.is))

@@ -2,7 +2,7 @@
 use Rattle.bytes_bundle.specs.Held.{is_held}
 use Rattle.image_catalogue.specs.Layout.{catalogue}
 use Rattle.image_catalogue.specs.Values.{catalogue_list, catalogue_tables}
-use Rattle.bind_table.specs.Steps.{resolved_at, resolved_off}
+use Rattle.bind_table.specs.Steps.{resolved_is, resolved_off}
 use Rattle.image_parts.specs.Layout.{query_body}
 use Rattle.write_select.specs.Writes.{select_holds, select_within, never_refused, bound_ready, bound_whole}
 use Rattle.write_select.proofs.write_select.Goals as goal
@@ -21,24 +21,6 @@ selected_table-requires c =
       select_within _ _ _ c.body_of.ensures c.select_of-s.ensures w.tables w.statement w.value w.reads w.gives p.0,
     )
 
-pub slice_bounds-put_select-count : goal.slice_bounds-put_select-count
-slice_bounds-put_select-count c =
-    let w = c.requires.1 in
-    let x = select_holds _ _ _ c.body_of.ensures c.select_of-s.ensures w.tables w.statement w.value w.reads w.gives in
-    (resolved_at _ _ (c.selected_table.ensures w.tables _ (catalogue_tables _ w.holds) x) c.in-At.is).lies.forth
-
-pub slice_bounds-put_select-start : goal.slice_bounds-put_select-start
-slice_bounds-put_select-start c =
-    let w = c.requires.1 in
-    let x = select_holds _ _ _ c.body_of.ensures c.select_of-s.ensures w.tables w.statement w.value w.reads w.gives in
-    (resolved_at _ _ (c.selected_table.ensures w.tables _ (catalogue_tables _ w.holds) x) c.in-At.is).lies.forth
-
-pub slice_bounds-put_select-end : goal.slice_bounds-put_select-end
-slice_bounds-put_select-end c =
-    let w = c.requires.1 in
-    let x = select_holds _ _ _ c.body_of.ensures c.select_of-s.ensures w.tables w.statement w.value w.reads w.gives in
-    (resolved_at _ _ (c.selected_table.ensures w.tables _ (catalogue_tables _ w.holds) x) c.in-At.is).lies.within
-
 pub put_select-requires : goal.put_select-requires
 put_select-requires c =
     let p = c.requires in
@@ -46,16 +28,16 @@ put_select-requires c =
     let body = c.body_of.ensures in
     let x = select_holds _ _ _ body c.select_of-s.ensures w.tables w.statement w.value w.reads w.gives in
     bound_ready _ _ _ body c.select_of-s.ensures w.tables w.statement w.value w.reads w.gives
-    (resolved_at _ _ (c.selected_table.ensures w.tables _ (catalogue_tables _ w.holds) x) c.in-At.is) p.0 w.room
+    (resolved_is _ (c.selected_table.ensures w.tables _ (catalogue_tables _ w.holds) x) c.in-Ok.is) p.0 w.room
 
-pub returns-in-At : goal.returns-in-At
-returns-in-At c = λ cat v b hc hv h.
+pub returns-in-Ok : goal.returns-in-Ok
+returns-in-Ok c = λ cat v b hc hv h.
     let x = select_holds _ _ _ c.body_of.ensures c.select_of-s.ensures cat v b hv h in
     bound_whole _ _ _ c.body_of.ensures c.select_of-s.ensures cat v b hv h
-    (resolved_at _ _ (c.selected_table.ensures cat _ (catalogue_tables _ hc) x) c.in-At.is) c.put_select.ensures
+    (resolved_is _ (c.selected_table.ensures cat _ (catalogue_tables _ hc) x) c.in-Ok.is) c.put_select.ensures
 
-pub returns-in-Refused : goal.returns-in-Refused
-returns-in-Refused c = λ cat v b hc hv h.
+pub returns-in-Err : goal.returns-in-Err
+returns-in-Err c = λ cat v b hc hv h.
     let x = select_holds _ _ _ c.body_of.ensures c.select_of-s.ensures cat v b hv h in
     absurd (never_refused _ _ _ c.body_of.ensures c.select_of-s.ensures cat v b hv h
-    (resolved_off _ _ (c.selected_table.ensures cat _ (catalogue_tables _ hc) x) c.in-Refused.is))
+    (resolved_off _ (c.selected_table.ensures cat _ (catalogue_tables _ hc) x) c.in-Err.is))

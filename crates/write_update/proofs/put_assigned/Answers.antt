@@ -1,5 +1,5 @@
 -- `write_update::put_assigned` meets its contract: the column, the value behind it, and the head in front of both.
-use mathlib.Core.Path.{sym, refl, ◌∙◌}
+use mathlib.Core.Path.{sym, ◌∙◌}
 use native.Mathlib.Omega.{arith}
 use Rattle.bytes_bundle.specs.Held.{is_held}
 use Rattle.image_catalogue.specs.Layout.{table}
@@ -14,7 +14,7 @@ pub table_id-requires : goal.table_id-requires
 table_id-requires c = is_held {f = table} c.requires.holds
 
 pub put_found-second-requires : goal.put_found-second-requires
-put_found-second-requires c = column_room c.requires refl
+put_found-second-requires c = column_room c.requires
 
 pub put_expression-end-requires : goal.put_expression-end-requires
 put_expression-end-requires c = value_ready c.requires c.table_id.result (known c.type_inv.e) c.put_found-second.ensures

@@ -10,13 +10,13 @@ target_column-requires c = (is_held {f = table} c.requires.holds, assignment_tar
 
 pub put_assigned-requires : goal.put_assigned-requires
 put_assigned-requires c =
-    targeted_room c.requires (λ v x hv hx. c.target_column.ensures v x.target hv (c.target_of.ensures x hx)) c.in-Is.is c.value_of.ensures
+    targeted_room c.requires (λ v x hv hx. c.target_column.ensures v x.target hv (c.target_of.ensures x hx)) c.in-Ok.is c.value_of.ensures
 
-pub returns-in-Is : goal.returns-in-Is
-returns-in-Is c = λ v x b hv hx g.
-    wrote_targeted v x (c.target_column.ensures v x.target hv (c.target_of.ensures x hx)) c.in-Is.is g
+pub returns-in-Ok : goal.returns-in-Ok
+returns-in-Ok c = λ v x b hv hx g.
+    wrote_targeted v x (c.target_column.ensures v x.target hv (c.target_of.ensures x hx)) c.in-Ok.is g
     (λ d hd i. c.put_assigned.ensures v x.value d b.value hv (c.value_of.ensures x hx) hd i g.value)
 
-pub returns-in-Refused : goal.returns-in-Refused
-returns-in-Refused c =
-    absurd (never_untargeted c.requires (λ v x hv hx. c.target_column.ensures v x.target hv (c.target_of.ensures x hx)) c.in-Refused.is)
+pub returns-in-Err : goal.returns-in-Err
+returns-in-Err c =
+    absurd (never_untargeted c.requires (λ v x hv hx. c.target_column.ensures v x.target hv (c.target_of.ensures x hx)) c.in-Err.is)

@@ -5,4 +5,4 @@ use Rattle.run_expression.proofs.Looked.{stands}
 use Rattle.run_expression.proofs.leaves.column.Goals as goal
 
 pub stored-requires : goal.stored-requires
-stored-requires c = let a = c.args in stands a.t.now a.r.now (canonical (named a.quoted a.name.now)) c.find_column.ensures _ c.in-Is.is c.requires.0 c.requires.1.1
+stored-requires c = let a = c.args in stands a.t.now a.r.now (canonical (named a.quoted a.name.now)) c.find_column.ensures _ c.in-Some.is c.requires.0 c.requires.1.1
