@@ -2,7 +2,7 @@
 -- Assumes nothing.
 use mathlib.Core.Path.{◌≡◌, refl, sym, ap, ◌∙◌}
 use mathlib.Core.Bool.{Bool, true, false, ◌&&◌}
-use mathlib.Core.List.{List}
+use mathlib.Core.List.{List, ◌∷◌}
 use Prim.Native.Nat.{ℕ, ◌+◌, ◌-◌, ◌≤◌}
 use native.Mathlib.Omega.{arith}
 use lib.ListN.{length, take, drop, drop_of_length-le}
@@ -71,32 +71,16 @@ module _ (s : OptionState) (o : ColumnOption) where
 
 -- ---- options
 
--- with the state that the first i options leave, the others make what all of them make
-pub record OptionsLeft (s : List ℕ) (t : OptionState) (i : ℕ) : Type 0 where
-  pub is : (os : List ColumnOption) → Holds (list_of 2 option) s os → options no_options os ≡ options t (drop i os)
+-- an option at a state, by what the code answered of it
+module _ (t : OptionState) (p : List ℕ) (r : Step) (g : (v : ColumnOption) → Holds option p v → step_of r ≡ one_option t v) (v : ColumnOption) (l : List ColumnOption) (h : Holds option p v) where
+  one_left : options t (v ∷ l) ≡ (step_of r >>= (λ u. options u l))
+  one_left = options_next t v l ∙ ap (λ (a : Answer OptionState). a >>= (λ u. options u l)) (sym (g v h))
 
-pub options_left : {s : List ℕ} {t : OptionState} → t ≡ no_options → OptionsLeft s t 0
-options_left e = record { is = λ os h. ap (λ (t : OptionState). options t os) (sym e) }
+  pub options_on : {n : declared.OptionState} → r ≡ step.Next n → options t (v ∷ l) ≡ options (state_of n) l
+  options_on q = one_left ∙ step_on (λ u. options u l) (ap step_of q)
 
-module _ {s : List ℕ} {t : OptionState} {i at e : ℕ} (l : OptionsLeft s t i) (d : Stepped 2 s i at e) where
-  one_left : {a : Answer OptionState} → ((v : ColumnOption) → Holds option (take (e - at) (drop at s)) v → a ≡ one_option t v)
-      → (os : List ColumnOption) → Holds (list_of 2 option) s os → options no_options os ≡ (a >>= (λ u. options u (drop (i + 1) os)))
-  one_left g os h =
-      let u = turn {f = option} d h in
-      l.is os h ∙ ap (options t) u.rest ∙ options_next t u.value (drop (i + 1) os)
-      ∙ ap (λ (a : Answer OptionState). a >>= (λ u. options u (drop (i + 1) os))) (sym (g u.value u.holds))
-
-  module _ {r : Step} (g : (v : ColumnOption) → Holds option (take (e - at) (drop at s)) v → step_of r ≡ one_option t v) where
-    pub options_on : {n : declared.OptionState} → r ≡ step.Next n → OptionsLeft s (state_of n) (i + 1)
-    options_on q = record { is = λ os h. one_left g os h ∙ step_on (λ u. options u (drop (i + 1) os)) (ap step_of q) }
-
-    pub options_stop : {k : Class} → r ≡ step.Refused k → (os : List ColumnOption) → Holds (list_of 2 option) s os → refuse k ≡ options no_options os
-    options_stop q os h = sym (one_left g os h ∙ step_off (λ u. options u (drop (i + 1) os)) (ap step_of q))
-
-pub options_end : {s : List ℕ} {t : OptionState} {n i at : ℕ} → OptionsLeft s t i → Along s n i at → n ≤ i → (os : List ColumnOption) → Holds (list_of 2 option) s os → given t ≡ options no_options os
-options_end {s} {t} {n} {i} l a h os k =
-    let z : length os ≤ i = omega (arith, a.count, list_count option s k) in
-    sym (l.is os k ∙ ap (options t) (drop_of_length-le os {i = i} z) ∙ options_done t)
+  pub options_stop : {k : Class} → r ≡ step.Refused k → options t (v ∷ l) ≡ refuse k
+  options_stop q = one_left ∙ step_off (λ u. options u l) (ap step_of q)
 
 -- ---- a column
 

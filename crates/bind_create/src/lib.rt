@@ -76,13 +76,9 @@ pub fn take_options(s: &[u8]) -> Step
     requires { Is (list_of 2 option) s.now }
     ensures { (os : List ColumnOption) → Holds (list_of 2 option) s.now os → step_of result ≡ options no_options os }
 {
-    let n = bytes_bundle::parts(s, 2);
     let mut state = bind_options::start();
-    let mut at = bytes_bundle::first(s, 2);
-    let mut i = 0;
-    while i < n {
-        let end = bytes_bundle::next(s, 2, i, at);
-        match take_option(state, &s[at..end]) {
+    for o in bytes_bundle::iter(s, 2) {
+        match take_option(state, o) {
             Step::Next(next) => {
                 state = next;
             }
@@ -90,8 +86,6 @@ pub fn take_options(s: &[u8]) -> Step
                 return Step::Refused(class);
             }
         }
-        at = end;
-        i += 1;
     }
     Step::Next(state)
 }

@@ -10,26 +10,13 @@ use native.Mathlib.Nat.{zero-mul, suc-mul}
 use native.Mathlib.Omega.{arith}
 use lib.ListN.{length, take, drop, length-take, length-drop}
 use lib.Seq.{take-take, drop-drop}
-use lib.Dec.{leb, eqb, leb-zero, eqb-suc-zero}
+use lib.Dec.{leb, leb-zero, eqb-suc-zero}
 use borrow.Author.Tests.{le-leb, lt-leb, leb-true, leb-false, eq-eqb, ne_eqb}
 use Rattle.bytes_wire.specs.Le.{num}
 use Rattle.bytes_format.specs.Ways.{next, number_read, row_read, cut_read, headed_read}
 use Rattle.bytes_format.proofs.Formats.{number, row, cut, pieces}
+use Rattle.bytes_bundle.specs.Contents.{lengths, fills, cuts}
 use Rattle.bytes_bundle.specs.Laws.{drop_take}
-
--- n numbers of w bytes each
-abbrev pub lengths : ℕ → ℕ → List ℕ → List ℕ
-lengths w zero s = []
-lengths w (suc n) s = num (take w s) ∷ lengths w n (drop w s)
-
--- pieces of the lengths ns are m bytes in all
-abbrev pub fills : List ℕ → ℕ → Bool
-fills [] m = eqb m 0
-fills (n ∷ ns) m = leb n m && fills ns (m - n)
-
-abbrev pub cuts : List ℕ → List ℕ → List (List ℕ)
-cuts [] s = []
-cuts (n ∷ ns) s = take n s ∷ cuts ns (drop n s)
 
 -- ---- two tests that go alike
 

@@ -9,7 +9,7 @@ use native.Mathlib.Nat.{zero-mul, suc-mul, mul-le-mul, mul-le-mul_right, pow-le-
 use native.Mathlib.Numerals.{add-one}
 use native.Mathlib.Omega.{arith}
 use lib.ListN.{length, take, drop, get_or, length-drop, length-append, take-append-drop}
-use lib.Seq.{drop-drop, drop-cons, take_at, drop_at, length-take-le}
+use lib.Seq.{take-take, drop-drop, drop-cons, take_at, drop_at, length-take-le}
 use lib.Dec.{leb, eqb, lit<}
 use borrow.Author.Tests.{le-leb, lt-leb, leb-true, eq-eqb, ne_eqb, eqb-true, eqb-false}
 use Rattle.bytes_wire.specs.Le.{num}
@@ -17,7 +17,9 @@ use Rattle.bytes_format.specs.Ways.{joined}
 use Rattle.bytes_format.proofs.Formats.{pieces}
 use Rattle.bytes_bundle.specs.Bundle.{is_there, or_nil, parts_of, IsBundle, PartAt, Stepped}
 use Rattle.bytes_bundle.specs.Decides.{and_of}
-use Rattle.bytes_bundle.proofs.Cuts.{lengths, fills, cuts, count, head, sizes, whole, pieces_of, pieces_read}
+use Rattle.bytes_bundle.specs.Contents.{lengths, fills, cuts}
+use Rattle.bytes_bundle.specs.Laws.{drop_take}
+use Rattle.bytes_bundle.proofs.Cuts.{count, head, sizes, whole, pieces_of, pieces_read}
 
 same_eqb : (a b x y : ℕ) → (a ≡ b → x ≡ y) → (x ≡ y → a ≡ b) → eqb a b ≡ eqb x y
 same_eqb a b x y f g = go (eqb a b) refl
@@ -175,6 +177,36 @@ module _ {w : ℕ} {s : List ℕ} (b : IsBundle w s) where
             ap (λ (n : ℕ). take n (drop at s)) (add-sub_cancel_left at k)
             ∙ ap (take k) here ∙ take_at (get_or (parts_of w s) i []) (joined (drop (suc i) (parts_of w s))) k size;
       }
+
+-- ---- the parts one behind the other
+
+-- nothing is read of the lengths behind the n ones
+lengths_cut : (w n : ℕ) (s : List ℕ) → lengths w n (take (n * w) s) ≡ lengths w n s
+lengths_cut w zero s = refl
+lengths_cut w (suc n) s =
+    let m : suc n * w ≡ w + n * w = omega (arith, suc-mul n w) in
+    rw (m, take-take w (w + n * w) s (omega arith), drop_take w (n * w) s, lengths_cut w n (drop w s))
+
+-- before the first turn
+module _ {w : ℕ} {s : List ℕ} (b : IsBundle w s) (n : ℕ) (e : n ≡ length (parts_of w s)) where
+  counted : n ≡ count w s
+  counted = e ∙ parts_count b
+
+  pub contents_room : w + n * w ≤ length s
+  contents_room = first_room b n counted
+
+  pub contents_fill : fills (lengths w n (take (n * w) (drop w s))) (length (drop (n * w) (drop w s))) ≡ true
+  contents_fill = rw (lengths_cut w n (drop w s), drop-drop (n * w) w s, counted) (fit b)
+
+  pub contents_cut : cuts (lengths w n (take (n * w) (drop w s))) (drop (n * w) (drop w s)) ≡ parts_of w s
+  contents_cut = rw (lengths_cut w n (drop w s), drop-drop (n * w) w s, counted) (sym (sized b).parts)
+
+-- a turn
+pub turn_cuts : (w left : ℕ) (s t : List ℕ) (k : ℕ) → 0 < left → k ≡ num (take w s)
+    → cuts (lengths w left s) t ≡ take k t ∷ cuts (lengths w (left - 1) (drop w s)) (drop k t)
+turn_cuts w left s t k h e =
+    let d : left ≡ suc (left - 1) = omega arith in
+    ap (λ (n : ℕ). cuts (lengths w n s) t) d ∙ ap (λ (n : ℕ). take n t ∷ cuts (lengths w (left - 1) (drop w s)) (drop n t)) (sym e)
 
 -- ---- sums that fit
 

@@ -1,4 +1,8 @@
 pub mod Bundle
+pub mod Contents
+pub mod Left
+pub mod Ahead
+pub mod Numbered
 pub mod Decides
 pub mod Laws
 pub mod Fields
@@ -7,3 +11,4 @@ pub mod Values
 pub mod Cases
 pub mod Held
 pub mod Looks
+pub mod Chains

@@ -5,6 +5,11 @@
 ghost use Rattle.std.specs.Prelude.{◌≡◌, [], ◌≤◌, ◌<◌, length, get_or};
 ghost use Rattle.bytes_format.proofs.Formats.{pieces};
 ghost use Rattle.bytes_bundle.specs.Bundle.{is_there, parts_of, IsBundle, is_record, PartAt, Stepped};
+ghost use Rattle.bytes_bundle.specs.Left.{parts_left};
+
+mod parts_iter;
+
+pub use parts_iter::Parts;
 
 // Whether the lengths in the contents add up to the bytes behind them.
 pub fn is_bundle(s: &[u8], w: usize) -> bool
@@ -70,6 +75,22 @@ pub fn next(s: &[u8], w: usize, i: usize, at: usize) -> usize
 {
     let k = bytes_wire::get(s, w + i * w, w) as usize;
     at + k
+}
+
+// The parts in their order, each lent as it stands in s.
+pub fn iter(s: &[u8], w: usize) -> Parts<'_>
+    requires { (w ≤ 4) × IsBundle w s.now }
+    ensures { parts_left result ≡ parts_of w s.now }
+{
+    let left = parts(s, w);
+    let (_, behind) = s.split_at(w);
+    let (lengths, bytes) = behind.split_at(left * w);
+    Parts {
+        lengths,
+        bytes,
+        left,
+        w,
+    }
 }
 
 // Part k, for a record: its parts are few, so that the way to one is short.

@@ -165,18 +165,7 @@ fn has_id(s: &[u8], id: ColumnId) -> bool
     requires { Is (list_of 2 (alone column_id)) s.now }
     ensures { (vs : List ColumnId) → Holds (list_of 2 (alone column_id)) s.now vs → result ≡ any (same_id id) vs }
 {
-    let n = bytes_bundle::parts(s, 2);
-    let mut at = bytes_bundle::first(s, 2);
-    let mut i = 0;
-    while i < n {
-        let end = bytes_bundle::next(s, 2, i, at);
-        if id.0 == image_catalogue::key_id(&s[at..end]).0 {
-            return true;
-        }
-        at = end;
-        i += 1;
-    }
-    false
+    bytes_bundle::iter(s, 2).any(|p| id.0 == image_catalogue::key_id(p).0)
 }
 
 // Whether a column of this id is part of the key.

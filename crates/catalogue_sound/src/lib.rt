@@ -30,18 +30,7 @@ fn are_numbered(s: &[u8]) -> bool
     requires { Is (list_of 2 (column_schema 2)) s.now }
     ensures { (cs : List ColumnSchema) → Holds (list_of 2 (column_schema 2)) s.now cs → result ≡ all has_id cs }
 {
-    let n = bytes_bundle::parts(s, 2);
-    let mut at = bytes_bundle::first(s, 2);
-    let mut i = 0;
-    while i < n {
-        let end = bytes_bundle::next(s, 2, i, at);
-        if !is_numbered(&s[at..end]) {
-            return false;
-        }
-        at = end;
-        i += 1;
-    }
-    true
+    bytes_bundle::iter(s, 2).all(is_numbered)
 }
 
 // Whether a column has this id and is not nullable, as a key's columns are.
@@ -59,18 +48,7 @@ fn is_key_column(s: &[u8], id: ColumnId) -> bool
     requires { Is (list_of 2 (column_schema 2)) s.now }
     ensures { (cs : List ColumnSchema) → Holds (list_of 2 (column_schema 2)) s.now cs → result ≡ is_key_column cs id }
 {
-    let n = bytes_bundle::parts(s, 2);
-    let mut at = bytes_bundle::first(s, 2);
-    let mut i = 0;
-    while i < n {
-        let end = bytes_bundle::next(s, 2, i, at);
-        if fits_key(&s[at..end], id) {
-            return true;
-        }
-        at = end;
-        i += 1;
-    }
-    false
+    bytes_bundle::iter(s, 2).any(|c| fits_key(c, id))
 }
 
 // Whether an id of a key is that of a column that is not nullable.
@@ -85,18 +63,7 @@ fn are_key_ids(s: &[u8], list: &[u8]) -> bool
     requires { Is (list_of 2 (alone column_id)) s.now × Is (list_of 2 (column_schema 2)) list.now }
     ensures { (ids : List ColumnId) → Holds (list_of 2 (alone column_id)) s.now ids → KeyedBy list.now (λ cs. result ≡ all (is_key_column cs) ids) }
 {
-    let n = bytes_bundle::parts(s, 2);
-    let mut at = bytes_bundle::first(s, 2);
-    let mut i = 0;
-    while i < n {
-        let end = bytes_bundle::next(s, 2, i, at);
-        if !is_key_id(&s[at..end], list) {
-            return false;
-        }
-        at = end;
-        i += 1;
-    }
-    true
+    bytes_bundle::iter(s, 2).all(|p| is_key_id(p, list))
 }
 
 // Column names distinct, ids distinct and nonzero; the key not empty, its ids distinct, present and of columns not nullable.
@@ -128,18 +95,7 @@ fn are_sound_tables(s: &[u8]) -> bool
     requires { Is (list_of 2 table) s.now }
     ensures { (ts : Catalogue) → Holds (list_of 2 table) s.now ts → result ≡ all sound_table ts }
 {
-    let n = bytes_bundle::parts(s, 2);
-    let mut at = bytes_bundle::first(s, 2);
-    let mut i = 0;
-    while i < n {
-        let end = bytes_bundle::next(s, 2, i, at);
-        if !is_sound_table(&s[at..end]) {
-            return false;
-        }
-        at = end;
-        i += 1;
-    }
-    true
+    bytes_bundle::iter(s, 2).all(is_sound_table)
 }
 
 // Table names distinct, ids distinct, and each table sound.

@@ -5,6 +5,7 @@ use Rattle.std.proofs.Common.{sym, ap, ◌∙◌}
 use Rattle.std.proofs.Math.Bool.{and_assoc}
 use Rattle.std.proofs.Math.Option.{some}
 use Rattle.bytes_bundle.specs.Decides.{all_of, all_cons}
+use Rattle.bytes_bundle.specs.Looks.{Looks}
 use Rattle.rules.specs.Lists.{find, any, all}
 
 module _ {A : Type 0} (p : A → Bool) (x : A) (l : List A) where
@@ -25,6 +26,13 @@ module _ {A : Type 0} (p : A → Bool) (x : A) (l : List A) where
 
   pub all_stop : p x ≡ false → all p (x ∷ l) ≡ false
   all_stop e = rw e
+
+-- `all` and `any`, as a chain over a list's parts finds them
+pub all_looks : {A : Type 0} (p : A → Bool) → Looks (all p) p true
+all_looks p = record { nothing = refl; on = λ x l e. all_pass p x l e; stop = λ x l e. all_stop p x l e }
+
+pub any_looks : {A : Type 0} (p : A → Bool) → Looks (any p) p false
+any_looks p = record { nothing = refl; on = λ x l e. any_miss p x l e; stop = λ x l e. any_hit p x l e }
 
 -- tests that are joined from the left
 abbrev pub chain : Bool → List Bool → Bool

@@ -1,27 +1,19 @@
 -- `bind_create::take_options` meets its contract. The invariant: with the state so far, the options that are left make what all of them make.
-use borrow.Author.Rules.{rules}
-use Rattle.bytes_bundle.specs.Held.{along, along_on, list_bundle, part_is}
-use Rattle.image_parts.specs.Layout.{option}
-use Rattle.bind_create.proofs.Columns.{options_left, options_on, options_stop, options_end}
+use mathlib.Core.Path.{sym, ap, ◌∙◌}
+use Rattle.bytes_bundle.specs.Ahead.{ahead_from, ahead_part, ahead_on, ahead_stop, ahead_end}
+use Rattle.bind_create.specs.Defined.{options_done}
+use Rattle.bind_create.proofs.Columns.{options_on, options_stop}
+use Rattle.rules.specs.Analyze.{options}
 use Rattle.bind_create.proofs.take_options.Goals as goal
 
-pub parts-n-requires : goal.parts-n-requires
-parts-n-requires c = let r = list_bundle option c.requires in search rules
+pub loop-o-init : goal.loop-o-init
+loop-o-init c = ahead_from (cc) (λ os. ap (λ t. options t os) (sym c.start-state.ensures))
 
-pub first-at-requires : goal.first-at-requires
-first-at-requires c = let r = list_bundle option c.requires in search rules
-
-pub loop-i-init : goal.loop-i-init
-loop-i-init c = (along option c.requires c.parts-n.ensures c.first-at.ensures, options_left c.start-state.ensures)
-
-pub take_option-requires : goal.take_option-requires
-take_option-requires c = part_is c.next-end.ensures c.requires
+pub loop-o-preserved : goal.loop-o-preserved
+loop-o-preserved c = ahead_on c.loop-o.invariant c.in-Some.ensures.steps (λ v l h. options_on _ _ _ c.take_option.ensures v l h c.in-Next.is)
 
 pub returns-in-Refused : goal.returns-in-Refused
-returns-in-Refused c = options_stop c.loop-i.invariant.1 c.next-end.ensures c.take_option.ensures c.in-Refused.is
-
-pub loop-i-preserved : goal.loop-i-preserved
-loop-i-preserved c = (along_on c.loop-i.invariant.0 c.next-end.ensures, options_on c.loop-i.invariant.1 c.next-end.ensures c.take_option.ensures c.in-Next.is)
+returns-in-Refused c = λ os k. sym (ahead_stop c.loop-o.invariant c.in-Some.ensures.steps (λ v l h. options_stop _ _ _ c.take_option.ensures v l h c.in-Refused.is) os k)
 
 pub returns : goal.returns
-returns c = options_end c.loop-i.invariant.1 c.loop-i.invariant.0 c.loop-i-test.false
+returns c = λ os k. sym (ahead_end c.loop-o.invariant c.in-None.ensures.steps.0 os k ∙ options_done _)

@@ -5,7 +5,7 @@ use native.Mathlib.Nat.{suc-mul}
 use mathlib.Core.Path.{◌≡◌, sym, ap, ◌∙◌}
 use Prim.Native.Nat.{ℕ, suc, ◌+◌, ◌-◌, ◌*◌, ◌≤◌}
 use lib.ListN.{length, drop}
-use Rattle.bytes_bundle.proofs.Cuts.{lengths, fills}
+use Rattle.bytes_bundle.specs.Contents.{lengths, fills}
 use Rattle.bytes_bundle.proofs.Places.{no_count, no_contents, contents, fills_short, fills_turn, fills_end, small}
 use Rattle.bytes_bundle.proofs.is_bundle.Goals as goal
 

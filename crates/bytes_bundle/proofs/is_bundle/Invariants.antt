@@ -5,7 +5,7 @@ use Prim.Native.Nat.{◌+◌, ◌-◌, ◌*◌, ◌≤◌}
 use lib.ListN.{length, drop}
 use Rattle.bytes_format.proofs.Formats.{pieces}
 use Rattle.bytes_bundle.specs.Bundle.{is_there}
-use Rattle.bytes_bundle.proofs.Cuts.{lengths, fills}
+use Rattle.bytes_bundle.specs.Contents.{lengths, fills}
 use Rattle.bytes_bundle.proofs.is_bundle.Given as goal
 
 abbrev pub invariant-loop-left : goal.invariant-loop-left

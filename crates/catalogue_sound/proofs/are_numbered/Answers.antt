@@ -1,35 +1,13 @@
--- `catalogue_sound::are_numbered` meets its contract. The invariant: what the values that are left decide.
-use Rattle.bytes_bundle.specs.Decides.{failed, passed}
-use Rattle.bytes_bundle.specs.Held.{list_bundle, along, along_on, part_is, left, left_stop, left_on, left_end}
-use Rattle.catalogue_sound.specs.Sound.{has_id}
-use Rattle.image_catalogue.specs.Entries.{all_pass, all_stop}
-use Rattle.image_value.specs.Parts.{column_schema}
+-- `catalogue_sound::are_numbered` meets its contract.
 use borrow.Author.Rules.{rules}
-use mathlib.Core.Path.{sym}
-use Rattle.std.proofs.Common.{ap}
-use Rattle.std.proofs.Common.{not}
+use Rattle.bytes_bundle.specs.Chains.{list_callable, list_looked}
+use Rattle.image_catalogue.specs.Entries.{all_looks}
+use Rattle.image_value.specs.Parts.{column_schema}
+use Rattle.catalogue_sound.specs.Sound.{has_id}
 use Rattle.catalogue_sound.proofs.are_numbered.Goals as goal
 
-pub parts-n-requires : goal.parts-n-requires
-parts-n-requires c = let r = list_bundle (column_schema 2) c.requires in search rules
-
-pub first-at-requires : goal.first-at-requires
-first-at-requires c = let r = list_bundle (column_schema 2) c.requires in search rules
-
-pub loop-i-init : goal.loop-i-init
-loop-i-init c = (along (column_schema 2) c.requires c.parts-n.ensures c.first-at.ensures, left)
-
-pub is_numbered-requires : goal.is_numbered-requires
-is_numbered-requires c = part_is {f = column_schema 2} c.next-end.ensures c.requires
-
-pub returns-then-not-is_numbered : goal.returns-then-not-is_numbered
-returns-then-not-is_numbered c = λ vs e.
-    sym (left_stop c.loop-i.invariant.1 c.next-end.ensures (λ v m h. all_stop (has_id) v m (failed (c.is_numbered.ensures v h) (ap not c.if-not-is_numbered.true))) vs e)
-
-pub loop-i-preserved : goal.loop-i-preserved
-loop-i-preserved c =
-    let d = c.next-end.ensures in
-    (along_on c.loop-i.invariant.0 d, left_on c.loop-i.invariant.1 d (λ v m h. all_pass (has_id) v m (passed (c.is_numbered.ensures v h) (ap not c.if-not-is_numbered.false))))
+pub all-requires-clause-callable : goal.all-requires-clause-callable
+all-requires-clause-callable c = list_callable (column_schema 2) 2 _ _ c.iter.ensures c.requires (λ x b q k. search rules) (λ x i. search rules)
 
 pub returns : goal.returns
-returns c = λ vs e. sym (left_end c.loop-i.invariant.1 c.loop-i.invariant.0 c.loop-i-test.false vs e)
+returns c = list_looked (column_schema 2) (all_looks has_id) 2 _ _ c.iter.ensures _ _ c.all.ensures.ran (λ x b q k. search rules)
