@@ -6,7 +6,7 @@ use mathlib.Core.List.{List}
 use mathlib.Core.Option.{Option, some, none}
 use Prim.Native.Nat.{ℕ, ◌-◌, ◌<◌, ◌≤◌}
 use native.Mathlib.Omega.{arith}
-use Rattle.std.specs.Prelude.{Option as Answer, Some, None}
+use Rattle.std.specs.Prelude.{Option as Maybe, Some, None}
 use lib.Dec.{leb, ltb, eqb, lit<}
 use borrow.Author.Tests.{leb-true, leb-false, ltb-true, ltb-false, eqb-true, eqb-false}
 use Rattle.bytes_wire.specs.Le.{Bytes}
@@ -105,13 +105,13 @@ unfolding un_kind
 no_paren {k} lo hi h = omega (arith, un_kind_lem k (omega arith) hi, ap un_kind h)
 
 -- what an operand comes to
-then_none : (w : Worked Value) (f : Value → Worked Value) {y : Answer Worth} → heard value_of y ≡ told w → y ≡ None → none ≡ told (then w f)
+then_none : (w : Worked Value) (f : Value → Worked Value) {y : Maybe Worth} → heard value_of y ≡ told w → y ≡ None → none ≡ told (then w f)
 then_none w f h e = let n : none ≡ told w = ap (heard value_of) (sym e) ∙ h in rw (told_then w f, ← n)
 
-then_some : (w : Worked Value) (f : Value → Worked Value) {y : Answer Worth} {u : Worth} → heard value_of y ≡ told w → y ≡ Some u → told (f (value_of u)) ≡ told (then w f)
+then_some : (w : Worked Value) (f : Value → Worked Value) {y : Maybe Worth} {u : Worth} → heard value_of y ≡ told w → y ≡ Some u → told (f (value_of u)) ≡ told (then w f)
 then_some w f {y} {u} h e = let n : some (value_of u) ≡ told w = ap (heard value_of) (sym e) ∙ h in rw (told_then w f, ← n)
 
-module _ (t e r : List ℕ) (i k : ℕ) (is : k ≡ (node_at e i).kind) (w : Answer Worth) where
+module _ (t e r : List ℕ) (i k : ℕ) (is : k ≡ (node_at e i).kind) (w : Maybe Worth) where
   pub leaf_says : k < 9 → ((v : TableSchema) → Holds table t v → (x : Row) → Holds row r x → heard value_of w ≡ told (leaf_value v x (leaf_of k (node_at e i).text))) → Works t e i r w
   unfolding evaluate
   leaf_says hi q v h x g a o = rw (leaf_at (node_at e) i k is a o hi) (q v h x g)
@@ -133,7 +133,7 @@ module _ (t e r : List ℕ) (i k : ℕ) (is : k ≡ (node_at e i).kind) (w : Ans
       let u = un_at (node_at e) i k is a o (omega arith) (omega arith) in
       rw (u.is, paren_of z, parens_none u.operand, then_same (evaluate v x u.operand)) (s v h x g u.operand u.root)
 
-  module _ (lo : 10 ≤ k) (hi : k < 16) (f : signs k (node_at e (i - 1)) ≡ false) (y : Answer Worth) (s : Works t e (i - 1) r y) where
+  module _ (lo : 10 ≤ k) (hi : k < 16) (f : signs k (node_at e (i - 1)) ≡ false) (y : Maybe Worth) (s : Works t e (i - 1) r y) where
     unary_by : ((v : TableSchema) (x : Row) (b : Expr) → heard value_of y ≡ told (evaluate v x b) → heard value_of w ≡ told (then (evaluate v x b) (unary_value (un_of k)))) → Works t e i r w
     unfolding evaluate
     unary_by q v h x g a o =
@@ -146,7 +146,7 @@ module _ (t e r : List ℕ) (i k : ℕ) (is : k ≡ (node_at e i).kind) (w : Ans
     pub unary_says : {u : Worth} → y ≡ Some u → heard value_of w ≡ told (unary_value (un_of k) (value_of u)) → Works t e i r w
     unary_says p q = unary_by (λ v x b z. q ∙ then_some (evaluate v x b) (unary_value (un_of k)) z p)
 
-  module _ (lo : 16 ≤ k) (n : ℕ) (d : n ≡ (node_at e (i - 1)).span) (y : Answer Worth) (s : Works t e (i - 1 - n) r y) where
+  module _ (lo : 16 ≤ k) (n : ℕ) (d : n ≡ (node_at e (i - 1)).span) (y : Maybe Worth) (s : Works t e (i - 1 - n) r y) where
     binary_by : ((v : TableSchema) → Holds table t v → (x : Row) → Holds row r x → (b c : Expr) → heard value_of y ≡ told (evaluate v x b) → Root (node_at e) (i - 1) c
         → heard value_of w ≡ told (then (evaluate v x b) (λ p. then (evaluate v x c) (binary_value (bin_of k) p)))) → Works t e i r w
     unfolding evaluate
@@ -157,7 +157,7 @@ module _ (t e r : List ℕ) (i k : ℕ) (is : k ≡ (node_at e i).kind) (w : Ans
     pub left_none : y ≡ None → w ≡ None → Works t e i r w
     left_none p q = binary_by (λ v h x g b c z o. rw q (then_none (evaluate v x b) _ z p))
 
-    module _ {l : Worth} (p : y ≡ Some l) (z : Answer Worth) (s' : Works t e (i - 1) r z) where
+    module _ {l : Worth} (p : y ≡ Some l) (z : Maybe Worth) (s' : Works t e (i - 1) r z) where
       pub right_none : z ≡ None → w ≡ None → Works t e i r w
       right_none q m =
           binary_by (λ v h x g b c j o.
@@ -170,5 +170,5 @@ module _ (t e r : List ℕ) (i k : ℕ) (is : k ≡ (node_at e i).kind) (w : Ans
 
 -- ---- a whole expression
 
-pub whole : (t e r : List ℕ) → Bytes e → (n : ℕ) → n ≡ node_count e → (w : Answer Worth) → Works t e (n - 1) r w → Comes t e r w
+pub whole : (t e r : List ℕ) → Bytes e → (n : ℕ) → n ≡ node_count e → (w : Maybe Worth) → Works t e (n - 1) r w → Comes t e r w
 whole t e r b n is w s v h x g a o = s v h x g a (rw is (placed b o).0)

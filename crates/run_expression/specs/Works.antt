@@ -1,6 +1,6 @@
 -- What `evaluate` and `value` ask for, and what they answer.
 -- Assumes nothing.
-use Rattle.std.specs.Prelude.{◌≡◌, true, List, ℕ, ◌<◌, length, Option as Answer}
+use Rattle.std.specs.Prelude.{◌≡◌, true, List, ℕ, ◌<◌, length, Option as Maybe}
 use Rattle.bytes_bundle.specs.Held.{Is, Holds, held, is_held}
 use Rattle.image_catalogue.specs.Layout.{table}
 use Rattle.image_expression.specs.Expression.{expression}
@@ -27,12 +27,12 @@ pub record Workable (t e : List ℕ) (i : ℕ) (r : List ℕ) : Type 0 where
   pub row : ObeysTable t r
 
 -- w is what the tree at node i comes to over the row
-abbrev pub Works : List ℕ → List ℕ → ℕ → List ℕ → Answer Worth → Type 0
+abbrev pub Works : List ℕ → List ℕ → ℕ → List ℕ → Maybe Worth → Type 0
 Works t e i r w =
     (v : TableSchema) → Holds table t v → (x : Row) → Holds row r x → (a : Expr) → Root (node_at e) i a → heard value_of w ≡ told (evaluate v x a)
 
 -- w is what the expression comes to over the row
-abbrev pub Comes : List ℕ → List ℕ → List ℕ → Answer Worth → Type 0
+abbrev pub Comes : List ℕ → List ℕ → List ℕ → Maybe Worth → Type 0
 Comes t e r w = (v : TableSchema) → Holds table t v → (x : Row) → Holds row r x → (a : Expr) → Holds expression e a → heard value_of w ≡ told (evaluate v x a)
 
 -- the row has a value at the position

@@ -2,7 +2,7 @@
 -- Assumes nothing.
 use Rattle.std.proofs.Math.Path.{◌≡◌, refl, ap}
 use Rattle.std.proofs.Common.{sym, ◌∙◌, arith}
-use Rattle.std.specs.Prelude.{true, false, List, [], ◌∷◌, ℕ, suc, ◌≤◌, ◌<◌}
+use Rattle.std.specs.Prelude.{true, List, [], ◌∷◌, ℕ, suc, ◌≤◌, ◌<◌, Option as Maybe, Some, None}
 use Rattle.std.proofs.lemmas.Bool.{false≢true}
 use Rattle.std.proofs.Math.Option.{Option, none, some, none-ne-some}
 use Rattle.std.proofs.Math.ListN.{length}
@@ -11,7 +11,7 @@ use Rattle.bytes_bundle.specs.Decides.{and_of}
 use Rattle.bytes_bundle.specs.Held.{Is, Holds, held, held_once}
 use Rattle.catalogue_lookup.specs.declared.Column.{Column}
 use Rattle.image_catalogue.specs.Layout.{table}
-use Rattle.run_expression.specs.Works.{ObeysTable, Says, obeys_row}
+use Rattle.run_expression.specs.Works.{ObeysTable, obeys_row}
 use Rattle.image_row.specs.Layout.{row}
 use Rattle.image_row.specs.Obeyed.{obeyed_row}
 use Rattle.rules.specs.declared.Class.TheVariants.{SchemaMismatch}
@@ -32,10 +32,8 @@ use Rattle.rules.proofs.Theorems.Values.{column_of_lem}
 use Rattle.image_parts.specs.Layout.{assignment}
 use Rattle.bind_update.specs.Targets.{target_column, ColumnGiven}
 use Rattle.run_values.specs.declared.Worth.{Worth}
-use Rattle.run_values.specs.Worths.{told}
-use Rattle.run_worth.specs.Written.{is_fault, fault_none, some_value}
-use Rattle.run_plan.specs.declared.Place.{Place}
-use Rattle.run_plan.specs.declared.Place.TheVariants as place
+use Rattle.run_values.specs.Worths.{told, heard}
+use Rattle.run_values.specs.Worths as worths
 use Rattle.run_plan.specs.Plans.{position, landing}
 
 -- t is a table of at most 64 columns, and r a row that obeys it
@@ -45,11 +43,11 @@ pub record Runs (t r : List ℕ) : Type 0 where
   pub obeys : ObeysTable t r
 
 -- p is where the assignment a lands
-abbrev pub placed : Option ℕ → Place
-placed none = place.Nowhere
-placed (some o) = place.At o
+abbrev pub placed : Option ℕ → Maybe ℕ
+placed none = None
+placed (some o) = Some o
 
-abbrev pub Lands : List ℕ → List ℕ → List ℕ → Place → Type 0
+abbrev pub Lands : List ℕ → List ℕ → List ℕ → Maybe ℕ → Type 0
 Lands t a r p = (v : TableSchema) (x : Row) (y : Assignment) → Holds table t v → Holds row r x → Holds assignment a y → p ≡ placed (landing v x y)
 
 -- ---- as many values as columns
@@ -122,9 +120,9 @@ target_told t g = go (target_name g)
     go (refused r) = refl
 
 module _ (v : TableSchema) (x : Row) (y : Assignment) where
-  pub land_fault : {e : List ℕ} {w : Worth} → is_fault w ≡ true → Says x e w (told (evaluate v x y.value)) → landing v x y ≡ none
+  pub land_fault : {w : Maybe Worth} → w ≡ None → heard worths.value_of w ≡ told (evaluate v x y.value) → landing v x y ≡ none
   unfolding landing
-  land_fault {e} {w} f s = ap (λ (o : Option Value). next o (λ u. position (rules.target_column v y.target))) (sym s.value ∙ fault_none x e w f)
+  land_fault f s = ap (λ (o : Option Value). next o (λ u. position (rules.target_column v y.target))) (sym s ∙ ap (heard worths.value_of) f)
 
   pub land_off : {k : Refusal} → target_column v y.target ≡ refused k → landing v x y ≡ none
   unfolding landing
@@ -134,12 +132,11 @@ module _ (v : TableSchema) (x : Row) (y : Assignment) where
       go none = refl
       go (some u) = refl
 
-  pub land_on : {e : List ℕ} {w : Worth} {c : Column} → is_fault w ≡ false → Says x e w (told (evaluate v x y.value))
+  pub land_on : {w : Maybe Worth} {u : Worth} {c : Column} → w ≡ Some u → heard worths.value_of w ≡ told (evaluate v x y.value)
       → ColumnGiven (target_column v y.target) c → landing v x y ≡ some c.ordinal.0
   unfolding landing
-  land_on {e} {w} {c} f s g =
-      let u = some_value x e s.sound f in
-      rw (sym s.value ∙ u.1, target_told v y.target, g.gives) (ap (λ (o : Ordinal). some o.0) (sym g.column.is.ordinal))
+  land_on f s g =
+      rw (sym s ∙ ap (heard worths.value_of) f, target_told v y.target, g.gives) (ap (λ (o : Ordinal). some o.0) (sym g.column.is.ordinal))
 
 landed : (v : TableSchema) (x : Row) (y : Assignment) {o : ℕ} → landing v x y ≡ some o → position (rules.target_column v y.target) ≡ some o
 unfolding landing
@@ -150,12 +147,12 @@ landed v x y {o} h = value (told (evaluate v x y.value)) h
     value (some w) k = k
 
 -- a place that is one is below 64
-pub lands_below : {t a r : List ℕ} {p : Place} {o : ℕ} → Runs t r → Is assignment a → Lands t a r p → p ≡ place.At o → o < 64
+pub lands_below : {t a r : List ℕ} {p : Maybe ℕ} {o : ℕ} → Runs t r → Is assignment a → Lands t a r p → p ≡ Some o → o < 64
 lands_below {t} {a} {r} {p} {o} u i l q =
     held u.schema (λ v hv. held (runs_row u) (λ x hx. held i (λ y hy.
     go v x y hv hx (landing v x y) refl (sym q ∙ l v x y hv hx hy))))
   where
-    go : (v : TableSchema) (x : Row) (y : Assignment) → Holds table t v → Holds row r x → (m : Option ℕ) → landing v x y ≡ m → place.At o ≡ placed m → o < 64
+    go : (v : TableSchema) (x : Row) (y : Assignment) → Holds table t v → Holds row r x → (m : Option ℕ) → landing v x y ≡ m → Some o ≡ placed m → o < 64
     go v x y hv hx none h k = absurd (let z : ◌≡◌ {A = ℕ} 0 1 = cc in omega arith)
     go v x y hv hx (some n) h k =
         let z : n ≡ o = cc in

@@ -1,6 +1,6 @@
 -- A loop over the bytes of the assignments that notes where each lands.
 -- Assumes nothing.
-use Rattle.std.specs.Prelude.{◌≡◌, refl, true, false, List, [], ◌∷◌, ℕ, ◌+◌, ◌-◌, ◌≤◌, length, take, drop, set, replicate}
+use Rattle.std.specs.Prelude.{◌≡◌, refl, List, [], ◌∷◌, ℕ, ◌+◌, ◌-◌, ◌≤◌, length, take, drop, set, replicate, Option as Maybe, Some, None}
 use Rattle.std.proofs.Common.{sym, ap, ◌∙◌, arith, drop_of_length-le}
 use Rattle.std.proofs.Math.Option.{Option, none, some}
 use Rattle.bytes_format.proofs.Formats.{list_of}
@@ -13,44 +13,42 @@ use Rattle.rules.specs.Rows.{Row}
 use Rattle.rules.specs.Statements.{Assignment}
 use Rattle.rules.specs.Tables.{TableSchema}
 use Rattle.image_parts.specs.Layout.{assignment}
-use Rattle.run_plan.specs.declared.Place.{Place}
-use Rattle.run_plan.specs.declared.Place.TheVariants as place
 use Rattle.run_plan.specs.Plans.{landing, planned, Plans, plans_on, plans_off}
 use Rattle.run_plan.specs.Runs.{Runs, Lands, placed, runs_few, runs_within}
 
 -- the first i assignments are noted
-pub record Planning (t s r : List ℕ) (i : ℕ) (from : List ℕ) : Type 0 where
+pub record Planning (t s r : List ℕ) (i : ℕ) (from : List (Maybe ℕ)) : Type 0 where
   pub at : (v : TableSchema) (x : Row) (xs : List Assignment) → Holds table t v → Holds row r x → Holds (list_of 2 assignment) s xs
-      → planned v x 0 (replicate 64 0) xs ≡ planned v x i from (drop i xs)
+      → planned v x 0 (replicate 64 None) xs ≡ planned v x i from (drop i xs)
 
-pub planning_none : {t s r : List ℕ} {from : List ℕ} → from ≡ replicate 64 0 → Planning t s r 0 from
-planning_none e = record { at = λ v x xs hv hx hs. ap (λ (f : List ℕ). planned v x 0 f xs) (sym e) }
+pub planning_none : {t s r : List ℕ} {from : List (Maybe ℕ)} → from ≡ replicate 64 None → Planning t s r 0 from
+planning_none e = record { at = λ v x xs hv hx hs. ap (λ (f : List (Maybe ℕ)). planned v x 0 f xs) (sym e) }
 
-landed : (l : Option ℕ) {o : ℕ} {p : Place} → p ≡ placed l → p ≡ place.At o → l ≡ some o
+landed : (l : Option ℕ) {o : ℕ} {p : Maybe ℕ} → p ≡ placed l → p ≡ Some o → l ≡ some o
 landed none h q = absurd (let z : ◌≡◌ {A = ℕ} 0 1 = cc in omega arith)
 landed (some n) h q = cc
 
-lost : (l : Option ℕ) {p : Place} → p ≡ placed l → p ≡ place.Nowhere → l ≡ none
+lost : (l : Option ℕ) {p : Maybe ℕ} → p ≡ placed l → p ≡ None → l ≡ none
 lost none h q = refl
 lost (some n) h q = absurd (let z : ◌≡◌ {A = ℕ} 0 1 = cc in omega arith)
 
-planned_on : (v : TableSchema) (x : Row) (i : ℕ) (from : List ℕ) (y : Assignment) (l : List Assignment) {o : ℕ} → landing v x y ≡ some o
-    → planned v x i from (y ∷ l) ≡ planned v x (i + 1) (set from o (i + 1)) l
+planned_on : (v : TableSchema) (x : Row) (i : ℕ) (from : List (Maybe ℕ)) (y : Assignment) (l : List Assignment) {o : ℕ} → landing v x y ≡ some o
+    → planned v x i from (y ∷ l) ≡ planned v x (i + 1) (set from o (Some i)) l
 unfolding planned
-planned_on v x i from y l h = ap (λ (m : Option ℕ). next m (λ o. planned v x (i + 1) (set from o (i + 1)) l)) h
+planned_on v x i from y l h = ap (λ (m : Option ℕ). next m (λ o. planned v x (i + 1) (set from o (Some i)) l)) h
 
-planned_off : (v : TableSchema) (x : Row) (i : ℕ) (from : List ℕ) (y : Assignment) (l : List Assignment) → landing v x y ≡ none
+planned_off : (v : TableSchema) (x : Row) (i : ℕ) (from : List (Maybe ℕ)) (y : Assignment) (l : List Assignment) → landing v x y ≡ none
     → planned v x i from (y ∷ l) ≡ none
 unfolding planned
-planned_off v x i from y l h = ap (λ (m : Option ℕ). next m (λ o. planned v x (i + 1) (set from o (i + 1)) l)) h
+planned_off v x i from y l h = ap (λ (m : Option ℕ). next m (λ o. planned v x (i + 1) (set from o (Some i)) l)) h
 
-planned_end : (v : TableSchema) (x : Row) (i : ℕ) (from : List ℕ) → planned v x i from [] ≡ some from
+planned_end : (v : TableSchema) (x : Row) (i : ℕ) (from : List (Maybe ℕ)) → planned v x i from [] ≡ some from
 unfolding planned
 planned_end v x i from = refl
 
-module _ {t s r : List ℕ} {i : ℕ} {from : List ℕ} (g : Planning t s r i from) where
-  module _ {at e : ℕ} (d : Stepped 2 s i at e) {p : Place} (l : Lands t (take (e - at) (drop at s)) r p) where
-    pub planning_on : {o : ℕ} → p ≡ place.At o → Planning t s r (i + 1) (set from o (i + 1))
+module _ {t s r : List ℕ} {i : ℕ} {from : List (Maybe ℕ)} (g : Planning t s r i from) where
+  module _ {at e : ℕ} (d : Stepped 2 s i at e) {p : Maybe ℕ} (l : Lands t (take (e - at) (drop at s)) r p) where
+    pub planning_on : {o : ℕ} → p ≡ Some o → Planning t s r (i + 1) (set from o (Some i))
     planning_on q = record {
       at = λ v x xs hv hx hs.
           let w = turn {f = assignment} d hs in
@@ -59,17 +57,17 @@ module _ {t s r : List ℕ} {i : ℕ} {from : List ℕ} (g : Planning t s r i fr
     }
 
     -- one that lands nowhere
-    pub planning_off : p ≡ place.Nowhere → (f : List ℕ) (v : TableSchema) (x : Row) (xs : List Assignment) → Holds table t v → Holds row r x → Holds (list_of 2 assignment) s xs
-        → Plans v x xs f false
-    planning_off q f v x xs hv hx hs =
+    pub planning_off : p ≡ None → (v : TableSchema) (x : Row) (xs : List Assignment) → Holds table t v → Holds row r x → Holds (list_of 2 assignment) s xs
+        → Plans v x xs None
+    planning_off q v x xs hv hx hs =
         let w = turn {f = assignment} d hs in
-        plans_off v x xs 64 f
+        plans_off v x xs 64
         (g.at v x xs hv hx hs ∙ ap (planned v x i from) w.rest
         ∙ planned_off v x i from w.value (drop (i + 1) xs) (lost (landing v x w.value) (l v x w.value hv hx w.holds) q))
 
   -- no assignment is left
   pub planning_end : Runs t r → {n at : ℕ} → Along s n i at → n ≤ i → (v : TableSchema) (x : Row) (xs : List Assignment) → Holds table t v → Holds row r x
-      → Holds (list_of 2 assignment) s xs → Plans v x xs from true
+      → Holds (list_of 2 assignment) s xs → Plans v x xs (Some from)
   planning_end u a h v x xs hv hx hs =
       let z : length xs ≤ i = omega (arith, a.count, list_count assignment s hs) in
       plans_on v x xs 64 (runs_within u hv hx) (runs_few u hv hx)

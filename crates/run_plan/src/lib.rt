@@ -1,7 +1,7 @@
 // Which assignment of an UPDATE each position of a row takes its value from.
 #![tactic(auto)]
 
-ghost use Rattle.std.specs.Prelude.{◌≡◌, List, replicate};
+ghost use Rattle.std.specs.Prelude.{◌<◌, List};
 ghost use Rattle.bytes_format.proofs.Formats.{list_of};
 ghost use Rattle.bytes_bundle.specs.Held.{Holds};
 ghost use Rattle.image_catalogue.specs.Layout.{table};
@@ -13,6 +13,7 @@ ghost use Rattle.rules.specs.Statements.{Assignment};
 ghost use Rattle.rules.specs.Tables.{TableSchema};
 ghost use Rattle.image_parts.specs.Layout.{assignment};
 ghost use Rattle.bind_update.specs.Within.{ShortAssignment, ShortAssignments};
+ghost use Rattle.run_values.specs.Worths.{text_size_of};
 ghost use Rattle.run_plan.specs.Plans.{Plans};
 ghost use Rattle.run_plan.specs.Runs.{Runs, Lands};
 
@@ -20,58 +21,43 @@ use bind_update::target_column;
 use image_update::{target_of, value_of};
 use run_expression::value;
 use run_values::Worth;
-use run_worth::is_fault;
-
-// The position that an assignment gives its value to; nowhere: its value is a fault, or its target no column.
-#[derive(Clone, Copy)]
-pub enum Place {
-    At(usize),
-    Nowhere,
-}
 
 // What an expression with short names comes to over the row.
-pub fn work_out<'a>(t: &'a [u8], e: &'a [u8], r: &'a [u8]) -> Worth
+pub fn work_out<'a>(t: &[u8], e: &'a [u8], r: &'a [u8]) -> Option<Worth<'a>>
     requires { Runs t.now r.now × ShortExpression e.now }
-    ensures { Comes t.now e.now r.now result }
+    ensures comes { Comes t.now e.now r.now result }
+    ensures short { text_size_of result < 4294967295 }
 {
     value(t, e, r)
 }
 
-fn land<'a>(t: &'a [u8], a: &'a [u8], r: &'a [u8]) -> Place
+// The position that an assignment gives its value to; None: its value is a fault, or its target no column.
+fn land(t: &[u8], a: &[u8], r: &[u8]) -> Option<usize>
     requires { Runs t.now r.now × ShortAssignment a.now }
     ensures { Lands t.now a.now r.now result }
 {
-    if is_fault(work_out(t, value_of(a), r)) {
-        return Place::Nowhere;
-    }
+    work_out(t, value_of(a), r)?;
     match target_column(t, target_of(a)) {
-        Ok(c) => Place::At(c.ordinal.0),
-        Err(_) => Place::Nowhere,
+        Ok(c) => Some(c.ordinal.0),
+        Err(_) => None,
     }
 }
 
-// Every assignment is worked out, also one whose position a later one takes. For each position `from` then has the number, from 1 on, of the
-// last assignment that gives it a value, and 0 where none does.
-pub fn plan<'a>(t: &'a [u8], s: &'a [u8], r: &'a [u8], from: &mut [usize; 64]) -> bool
-    requires { Runs t.now r.now × (ShortAssignments s.now × (from.old ≡ replicate 64 0)) }
+// Every assignment is worked out, also one whose position a later one takes. The plan has for each position the number of the last assignment
+// that gives it a value, and None where none does; there is no plan where one of them lands nowhere.
+pub fn plan(t: &[u8], s: &[u8], r: &[u8]) -> Option<[Option<usize>; 64]>
+    requires { Runs t.now r.now × ShortAssignments s.now }
     ensures { (v : TableSchema) (x : Row) (xs : List Assignment) → Holds table t.now v → Holds row r.now x
-        → Holds (list_of 2 assignment) s.now xs → Plans v x xs from.new result }
+        → Holds (list_of 2 assignment) s.now xs → Plans v x xs result }
 {
     let n = bytes_bundle::parts(s, 2);
     let mut at = bytes_bundle::first(s, 2);
-    let mut i = 0;
-    while i < n {
+    let mut from = [None; 64];
+    for i in 0..n {
         let end = bytes_bundle::next(s, 2, i, at);
-        match land(t, &s[at..end], r) {
-            Place::At(o) => {
-                from[o] = i + 1;
-            }
-            Place::Nowhere => {
-                return false;
-            }
-        }
+        let o = land(t, &s[at..end], r)?;
+        from[o] = Some(i);
         at = end;
-        i += 1;
     }
-    true
+    Some(from)
 }

@@ -1,22 +1,19 @@
 -- The value at a position of the new row, by the bytes that it is drawn from, and the room that it takes.
 -- Assumes nothing.
-use Rattle.std.specs.Prelude.{◌≡◌, Bool, true, List, [], ◌∷◌, ℕ, zero, suc, ◌+◌, ◌-◌, ◌≤◌, ◌<◌, length, get_or, drop}
-use Rattle.std.proofs.Common.{sym, ap, ◌∙◌, subst, arith, length-drop}
-use Rattle.std.proofs.Math.Option.{some, some-injective}
+use Rattle.std.specs.Prelude.{◌≡◌, Bool, true, List, [], ◌∷◌, ℕ, zero, suc, ◌+◌, ◌≤◌, ◌<◌, length, get_or, drop, Option as Maybe, Some, None, IsSome}
+use Rattle.std.proofs.Common.{refl, sym, ap, ◌∙◌, subst, arith, length-drop}
+use Rattle.std.proofs.Math.Option.{some, none-ne-some, some-injective}
 use Rattle.bytes_wire.specs.Le.{Bytes}
-use Rattle.bytes_wire.specs.Sets.{Wrote}
 use Rattle.bytes_format.proofs.Formats.{list_of}
 use Rattle.bytes_bundle.specs.Bundle.{parts_of}
 use Rattle.bytes_bundle.specs.Decides.{and_of}
-use Rattle.bytes_bundle.specs.Held.{Is, Holds, held, held_once, is_held, list_count}
+use Rattle.bytes_bundle.specs.Held.{Is, Holds, held_once, is_held, list_count}
 use Rattle.bytes_bundle.specs.Laws.{list_values}
 use Rattle.image_catalogue.specs.Layout.{table}
+use Rattle.run_expression.specs.Short.{value_below}
 use Rattle.run_expression.specs.Works as works
 use Rattle.image_expression.specs.Expression.{expression}
-use Rattle.bind_where.specs.Short.{ShortExpression}
-use Rattle.image_expression.specs.Laws.{is_image}
 use Rattle.run_plan.specs.Plans.{source, Drawn, source_old, source_new}
-use Rattle.run_plan.specs.Runs.{Runs, runs_row}
 use Rattle.image_row.specs.Layout.{row}
 use Rattle.rules.specs.Bound.{Value}
 use Rattle.rules.specs.Evaluate.{evaluate}
@@ -28,8 +25,7 @@ use Rattle.image_parts.specs.Layout.{assignment}
 use Rattle.bind_update.specs.Within.{ShortNames, ShortAssignment, ShortAssignments}
 use Rattle.image_value.specs.Parts.{value}
 use Rattle.run_values.specs.declared.Worth.{Worth}
-use Rattle.run_values.specs.Worths.{told, value_of, Images, SoundOver}
-use Rattle.run_worth.specs.Written.{Room, value_below}
+use Rattle.run_values.specs.Worths.{told, heard, value_of}
 
 -- ---- what the bytes come to
 
@@ -43,8 +39,8 @@ pub record Comes (t e r : List ℕ) (u : Value) : Type 0 where
   pub spells : Holds expression e tree
   pub is : told (evaluate schema old tree) ≡ some u
 
--- u is the value at position p, where k is noted for it
-pub record Drawing (t s r : List ℕ) (p k : ℕ) (u : Value) : Type 0 where
+-- u is the value at position p, where the plan has k for it
+pub record Drawing (t s r : List ℕ) (p : ℕ) (k : Maybe ℕ) (u : Value) : Type 0 where
   pub schema : TableSchema
   pub old : Row
   pub list : List Assignment
@@ -55,7 +51,7 @@ pub record Drawing (t s r : List ℕ) (p k : ℕ) (u : Value) : Type 0 where
   pub is : source schema old list p k ≡ some u
 
 -- z is the row that has its values from where `from` says
-pub record RowDrawn (t s r from : List ℕ) (z : Row) : Type 0 where
+pub record RowDrawn (t s r : List ℕ) (from : List (Maybe ℕ)) (z : Row) : Type 0 where
   pub schema : TableSchema
   pub old : Row
   pub list : List Assignment
@@ -72,25 +68,29 @@ pub record Kept (p o : List ℕ) (at : ℕ) : Type 0 where
   pub holds : Holds value p worth
   pub room : at + length (value.write worth) ≤ length o
 
+pub record Gives (t e r : List ℕ) : Type 0 where
+  pub worth : Value
+  pub comes : Comes t e r worth
+
 pub record Given (t e r o : List ℕ) (at : ℕ) : Type 0 where
   pub worth : Value
   pub comes : Comes t e r worth
   pub room : at + length (value.write worth) ≤ length o
 
-pub record Draws (t s r : List ℕ) (p k : ℕ) : Type 0 where
+pub record Draws (t s r : List ℕ) (p : ℕ) (k : Maybe ℕ) : Type 0 where
   pub worth : Value
   pub drawing : Drawing t s r p k worth
 
-pub record DrawsInto (t s r : List ℕ) (p k : ℕ) (o : List ℕ) (at : ℕ) : Type 0 where
+pub record DrawsInto (t s r : List ℕ) (p : ℕ) (k : Maybe ℕ) (o : List ℕ) (at : ℕ) : Type 0 where
   pub worth : Value
   pub drawing : Drawing t s r p k worth
   pub room : at + length (value.write worth) ≤ length o
 
-pub record RowDraws (t s r from : List ℕ) : Type 0 where
+pub record RowDraws (t s r : List ℕ) (from : List (Maybe ℕ)) : Type 0 where
   pub new : Row
   pub drawn : RowDrawn t s r from new
 
-pub record RowDrawsInto (t s r from o : List ℕ) : Type 0 where
+pub record RowDrawsInto (t s r : List ℕ) (from : List (Maybe ℕ)) (o : List ℕ) : Type 0 where
   pub new : Row
   pub drawn : RowDrawn t s r from new
   pub room : length (row.write new) ≤ length o
@@ -100,45 +100,34 @@ pub record RowDrawsInto (t s r from o : List ℕ) : Type 0 where
 pub kept_bytes : {p : List ℕ} {u : Value} → Bytes p → Holds value p u → p ≡ value.write u
 kept_bytes {p} {u} b h = (value.back p u b h).0
 
-pub images : {t e r : List ℕ} → Runs t r → ShortExpression e → Images r e
-images u x = record { row = runs_row u; expression = held x.is (λ y h. is_image h) }
-
 -- ---- what an expression comes to
 
-module _ {t e r : List ℕ} {w : Worth} (c : works.Comes t e r w) where
-  comes_value : {u : Value} (d : Comes t e r u) → value_of d.old e w ≡ some u
-  comes_value d = (c d.schema d.holds d.old d.reads d.tree d.spells).value ∙ d.is
+module _ {t x r : List ℕ} (m : Maybe Worth) (c : works.Comes t x r m) where
+  heard_value : {u : Value} (d : Comes t x r u) → heard value_of m ≡ some u
+  heard_value d = c d.schema d.holds d.old d.reads d.tree d.spells ∙ d.is
 
-  pub comes_sound : Is table t → Is expression e → SoundOver r e w
-  comes_sound i j = held i (λ v hv. held j (λ y hy. record { over = λ x hx. (c v hv x hx y hy).sound }))
+  pub comes_some : Gives t x r → IsSome m
+  comes_some g = there m (heard_value g.comes)
+    where
+      there : (m : Maybe Worth) {u : Value} → heard value_of m ≡ some u → IsSome m
+      there None {u} h = absurd (none-ne-some u h)
+      there (Some w) h = refl
 
-  pub comes_long : {n : ℕ} → ((x : Row) (v : Value) → Holds row r x → value_of x e w ≡ some v → n ≡ length (value.write v))
-      → (u : Value) → Comes t e r u → n ≡ length (value.write u)
-  comes_long f u d = f d.old u d.reads (comes_value d)
-
-  pub comes_wrote : {o o' : List ℕ} {at n : ℕ} → ((x : Row) (v : Value) → Holds row r x → value_of x e w ≡ some v → Wrote o at (value.write v) n o')
-      → (u : Value) → Comes t e r u → Wrote o at (value.write u) n o'
-  comes_wrote f u d = f d.old u d.reads (comes_value d)
-
-  pub comes_room : {o : List ℕ} {at : ℕ} → Given t e r o at → Room r e w o at
-  comes_room {o} {at} g = record {
-    fits = λ x v hx q.
-        let z : x ≡ g.comes.old = held_once row hx g.comes.reads in
-        let k : v ≡ g.worth = some-injective v g.worth (sym q ∙ ap (λ (y : Row). value_of y e w) z ∙ comes_value g.comes) in
-        subst (λ (m : Value). at + length (value.write m) ≤ length o) (sym k) g.room;
-  }
+  module _ {w : Worth} (e : m ≡ Some w) where
+    pub comes_value : {u : Value} (d : Comes t x r u) → value_of w ≡ u
+    comes_value {u} d = some-injective (value_of w) u (ap (heard value_of) (sym e) ∙ heard_value d)
 
 -- ---- a position
 
-module _ {t s r : List ℕ} {p k : ℕ} {u : Value} (d : Drawing t s r p k u) where
+module _ {t s r : List ℕ} {p : ℕ} {k : Maybe ℕ} {u : Value} (d : Drawing t s r p k u) where
   -- the old value
-  pub drawing_old : k ≡ 0 → u ≡ get_or d.old p Value.null
-  drawing_old e = some-injective u _ (sym d.is ∙ source_old d.schema d.old d.list p k e)
+  pub drawing_old : k ≡ None → u ≡ get_or d.old p Value.null
+  drawing_old e = some-injective u _ (sym d.is ∙ ap (source d.schema d.old d.list p) e ∙ source_old d.schema d.old d.list p)
 
-  pub drawing_kept : k ≡ 0 → (q : List ℕ) → ((x : Row) → Holds row r x → Holds value q (get_or x p Value.null)) → Holds value q u
+  pub drawing_kept : k ≡ None → (q : List ℕ) → ((x : Row) → Holds row r x → Holds value q (get_or x p Value.null)) → Holds value q u
   drawing_kept e q f = f d.old d.reads ∙ ap some (sym (drawing_old e))
 
-  pub drawing_below : Bytes r → k ≡ 0 → length (value.write u) < 4294967296
+  pub drawing_below : Bytes r → k ≡ None → length (value.write u) < 4294967296
   drawing_below b e = rw (drawing_old e) (value_below b d.reads p d.within)
 
   pub drawing_there : Is row r × ((x : Row) → Holds row r x → p < length x)
@@ -173,14 +162,13 @@ pub record PartIs (t s r : List ℕ) (j : ℕ) (u : Value) : Type 0 where
   pub part : Holds assignment (get_or (parts_of 2 s) j []) entry
   pub is : told (evaluate schema old entry.value) ≡ some u
 
-module _ {t s r : List ℕ} {p k : ℕ} {u : Value} (d : Drawing t s r p k u) (n : k ≡ 0 → ⊥) where
-  drawing_part : PartIs t s r (k - 1) u
+module _ {t s r : List ℕ} {p j : ℕ} {k : Maybe ℕ} {u : Value} (d : Drawing t s r p k u) (n : k ≡ Some j) where
+  drawing_part : PartIs t s r j u
   drawing_part =
-      source_new d.schema d.old d.list p k n d.is (λ a l j e h q.
-      let z : j ≡ k - 1 = omega arith in
+      source_new d.schema d.old d.list p j (ap (source d.schema d.old d.list p) (sym n) ∙ d.is) (λ a l h q.
       let m = list_values 2 assignment s d.lists in
       let w : j < length (parts_of 2 s) = omega (arith, list_count assignment s d.lists, length-drop j d.list, ap length h) in
-      subst (λ (i : ℕ). PartIs t s r i u) z (record {
+      record {
         schema = d.schema;
         old = d.old;
         list = d.list;
@@ -193,12 +181,12 @@ module _ {t s r : List ℕ} {p k : ℕ} {u : Value} (d : Drawing t s r p k u) (n
         at = h;
         part = m.value j a w ∙ ap some (get_d_here j d.list h);
         is = q;
-      }))
+      })
 
-  pub drawing_few : k - 1 < length (parts_of 2 s)
+  pub drawing_few : j < length (parts_of 2 s)
   drawing_few = drawing_part.few
 
-  module _ {q : List ℕ} (e : q ≡ get_or (parts_of 2 s) (k - 1) []) where
+  module _ {q : List ℕ} (e : q ≡ get_or (parts_of 2 s) j []) where
     part_holds : Holds assignment q drawing_part.entry
     part_holds = ap assignment.read e ∙ drawing_part.part
 
@@ -207,7 +195,7 @@ module _ {t s r : List ℕ} {p k : ℕ} {u : Value} (d : Drawing t s r p k u) (n
       is = is_held {f = assignment} part_holds;
       short = λ a g.
           let w = drawing_part in
-          ap ShortNames (held_once assignment g part_holds) ∙ all_here ShortNames (k - 1) w.list (h.short w.list w.lists) w.at;
+          ap ShortNames (held_once assignment g part_holds) ∙ all_here ShortNames j w.list (h.short w.list w.lists) w.at;
     }
 
     pub drawing_comes : {b : List ℕ} → ((a : Assignment) → Holds assignment q a → Holds expression b a.value) → Comes t b r u
@@ -217,17 +205,17 @@ module _ {t s r : List ℕ} {p k : ℕ} {u : Value} (d : Drawing t s r p k u) (n
 
 -- ---- the room of a position's value
 
-module _ {t s r : List ℕ} {p k : ℕ} {o : List ℕ} {at : ℕ} (d : DrawsInto t s r p k o at) where
-  pub into_kept : k ≡ 0 → (q : List ℕ) → ((x : Row) → Holds row r x → Holds value q (get_or x p Value.null)) → Kept q o at
+module _ {t s r : List ℕ} {p : ℕ} {k : Maybe ℕ} {o : List ℕ} {at : ℕ} (d : DrawsInto t s r p k o at) where
+  pub into_kept : k ≡ None → (q : List ℕ) → ((x : Row) → Holds row r x → Holds value q (get_or x p Value.null)) → Kept q o at
   into_kept e q f = record { worth = d.worth; holds = drawing_kept d.drawing e q f; room = d.room }
 
-  pub into_given : (n : k ≡ 0 → ⊥) {q : List ℕ} → q ≡ get_or (parts_of 2 s) (k - 1) [] → {b : List ℕ}
+  pub into_given : {j : ℕ} → k ≡ Some j → {q : List ℕ} → q ≡ get_or (parts_of 2 s) j [] → {b : List ℕ}
       → ((a : Assignment) → Holds assignment q a → Holds expression b a.value) → Given t b r o at
   into_given n e f = record { worth = d.worth; comes = drawing_comes d.drawing n e f; room = d.room }
 
 -- ---- the whole row
 
-pub row_drawing : {t s r from : List ℕ} {z : Row} {p : ℕ} → RowDrawn t s r from z → p < length z → Drawing t s r p (get_or from p 0) (get_or z p Value.null)
+pub row_drawing : {t s r : List ℕ} {from : List (Maybe ℕ)} {z : Row} {p : ℕ} → RowDrawn t s r from z → p < length z → Drawing t s r p (get_or from p None) (get_or z p Value.null)
 row_drawing {p = p} d h =
     let w : p < length d.old = omega (arith, d.drawn.count) in
     record {

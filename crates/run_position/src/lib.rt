@@ -9,7 +9,7 @@ ghost use Rattle.run_plan.specs.Runs.{Runs};
 ghost use Rattle.rules.specs.Bound.{Value};
 ghost use Rattle.bind_update.specs.Within.{ShortAssignments};
 ghost use Rattle.image_value.specs.Parts.{value};
-ghost use Rattle.run_position.specs.Drawing.{Comes, Drawing, Kept, Given, Draws, DrawsInto};
+ghost use Rattle.run_position.specs.Drawing.{Comes, Drawing, Kept, Gives, Given, Draws, DrawsInto};
 
 use image_row::value_at;
 use image_update::value_of;
@@ -17,17 +17,11 @@ use rules::Ordinal;
 use run_plan::work_out;
 use run_worth::{put_worth, worth_len};
 
-fn size(p: &[u8]) -> usize
-    ensures { result ≡ length p.now }
-{
-    p.len()
-}
-
 // A value that stands in the row is copied as it is.
 fn kept_len(p: &[u8]) -> usize
     ensures { (u : Value) → Holds value p.now u → result ≡ length (value.write u) }
 {
-    size(p)
+    p.len()
 }
 
 fn put_kept(out: &mut [u8], at: usize, p: &[u8]) -> usize
@@ -37,48 +31,48 @@ fn put_kept(out: &mut [u8], at: usize, p: &[u8]) -> usize
     bytes_wire::put_all(out, at, p)
 }
 
-fn given_len<'a>(t: &'a [u8], e: &'a [u8], r: &'a [u8]) -> usize
-    requires { Runs t.now r.now × ShortExpression e.now }
+fn given_len(t: &[u8], e: &[u8], r: &[u8]) -> usize
+    requires { (Runs t.now r.now × ShortExpression e.now) × Gives t.now e.now r.now }
     ensures { (result ≤ 4294967296) × ((u : Value) → Comes t.now e.now r.now u → result ≡ length (value.write u)) }
 {
-    worth_len(r, e, work_out(t, e, r))
+    worth_len(work_out(t, e, r).unwrap())
 }
 
-fn put_given<'a>(out: &mut [u8], at: usize, t: &'a [u8], e: &'a [u8], r: &'a [u8]) -> usize
+fn put_given(out: &mut [u8], at: usize, t: &[u8], e: &[u8], r: &[u8]) -> usize
     requires { (Runs t.now r.now × ShortExpression e.now) × Given t.now e.now r.now out.old at }
     ensures { (u : Value) → Comes t.now e.now r.now u
         → Wrote out.old at (value.write u) result out.new }
 {
-    let w = work_out(t, e, r);
-    put_worth(out, at, r, e, w)
+    let w = work_out(t, e, r).unwrap();
+    put_worth(out, at, w)
 }
 
-// The value at position p, where k is noted for it.
-pub fn value_len<'a>(t: &'a [u8], s: &'a [u8], r: &'a [u8], p: usize, k: usize) -> usize
+// The value at position p: what assignment k comes to, or the old one where there is none.
+pub fn value_len(t: &[u8], s: &[u8], r: &[u8], p: usize, k: Option<usize>) -> usize
     requires { (Runs t.now r.now × ShortAssignments s.now) × Draws t.now s.now r.now p k }
     ensures { (result ≤ 4294967296) × ((u : Value) → Drawing t.now s.now r.now p k u → result ≡ length (value.write u)) }
 {
-    if 0 < k {
-        return given_len(t, value_of(bytes_bundle::part(s, 2, k - 1)), r);
+    match k {
+        None => kept_len(value_at(r, Ordinal(p))),
+        Some(i) => given_len(t, value_of(bytes_bundle::part(s, 2, i)), r),
     }
-    kept_len(value_at(r, Ordinal(p)))
 }
 
-pub fn put_value<'a>(
+pub fn put_value(
     out: &mut [u8],
     at: usize,
-    t: &'a [u8],
-    s: &'a [u8],
-    r: &'a [u8],
+    t: &[u8],
+    s: &[u8],
+    r: &[u8],
     p: usize,
-    k: usize,
+    k: Option<usize>,
 ) -> usize
     requires { (Runs t.now r.now × ShortAssignments s.now) × DrawsInto t.now s.now r.now p k out.old at }
     ensures { (u : Value) → Drawing t.now s.now r.now p k u
         → Wrote out.old at (value.write u) result out.new }
 {
-    if k == 0 {
-        return put_kept(out, at, value_at(r, Ordinal(p)));
+    match k {
+        None => put_kept(out, at, value_at(r, Ordinal(p))),
+        Some(i) => put_given(out, at, t, value_of(bytes_bundle::part(s, 2, i)), r),
     }
-    put_given(out, at, t, value_of(bytes_bundle::part(s, 2, k - 1)), r)
 }

@@ -1,6 +1,6 @@
 -- The loops over the positions of the new row: one measures its values, one writes them.
 -- Assumes nothing.
-use Rattle.std.specs.Prelude.{◌≡◌, List, ◌∷◌, ◌++◌, ℕ, ◌+◌, ◌-◌, ◌*◌, ◌≤◌, ◌<◌, length, take, drop, get_or}
+use Rattle.std.specs.Prelude.{◌≡◌, List, ◌∷◌, ◌++◌, ℕ, ◌+◌, ◌-◌, ◌*◌, ◌≤◌, ◌<◌, length, take, drop, get_or, Option as Maybe, None}
 use Rattle.std.proofs.Common.{sym, ap, ◌∙◌, add-one, arith, length-append, drop-cons, take_all}
 use Rattle.bytes_wire.specs.Le.{le}
 use Rattle.bytes_wire.specs.Sets.{Wrote}
@@ -17,10 +17,10 @@ use Rattle.image_value.specs.Parts.{value}
 use Rattle.run_position.specs.Drawing.{Drawing, RowDrawn, RowDraws, RowDrawsInto, Draws, DrawsInto, row_drawing}
 
 -- as many values as the old row has
-pub row_count : {t s r from : List ℕ} {z : Row} → RowDrawn t s r from z → length z ≡ length (parts_of 4 r)
+pub row_count : {t s r : List ℕ} {from : List (Maybe ℕ)} {z : Row} → RowDrawn t s r from z → length z ≡ length (parts_of 4 r)
 row_count {r = r} d = d.drawn.count ∙ (row_values r d.reads).count
 
-pub count_few : {t s r from : List ℕ} {z : Row} → Runs t r → RowDrawn t s r from z → length (parts_of 4 r) ≤ 64
+pub count_few : {t s r : List ℕ} {from : List (Maybe ℕ)} {z : Row} → Runs t r → RowDrawn t s r from z → length (parts_of 4 r) ≤ 64
 count_few {r = r} u d = omega (arith, runs_few u d.holds d.reads, (row_values r d.reads).count)
 
 pub row_long : (z : Row) → length (row.write z) ≡ 4 + 4 * length z + length (bodies value z)
@@ -30,21 +30,21 @@ row_long z = list_length value z
 row_next : (z : Row) (p : ℕ) → p < length z → drop p z ≡ get_or z p Value.null ∷ drop (p + 1) z
 row_next z p h = drop-cons z p Value.null h ∙ ap (λ (k : ℕ). get_or z p Value.null ∷ drop k z) (sym (add-one p))
 
-pub turn_draws : {t s r from : List ℕ} {p : ℕ} → RowDraws t s r from → p < length (parts_of 4 r) → Draws t s r p (get_or from p 0)
+pub turn_draws : {t s r : List ℕ} {from : List (Maybe ℕ)} {p : ℕ} → RowDraws t s r from → p < length (parts_of 4 r) → Draws t s r p (get_or from p None)
 turn_draws d h = record { worth = _; drawing = row_drawing d.drawn (omega (arith, row_count d.drawn)) }
 
 -- ---- measured
 
 -- the values before position p are `sum` long, with their lengths and the count
-pub record Measuring (t s r from : List ℕ) (p sum : ℕ) : Type 0 where
+pub record Measuring (t s r : List ℕ) (from : List (Maybe ℕ)) (p sum : ℕ) : Type 0 where
   pub at : (z : Row) → RowDrawn t s r from z → sum ≡ 4 + 4 * p + length (bodies value (take p z))
 
-pub measuring_none : {t s r from : List ℕ} {sum : ℕ} → sum ≡ 4 → Measuring t s r from 0 sum
+pub measuring_none : {t s r : List ℕ} {from : List (Maybe ℕ)} {sum : ℕ} → sum ≡ 4 → Measuring t s r from 0 sum
 unfolding bodies
 measuring_none e = record { at = λ z d. e }
 
-module _ {t s r from : List ℕ} {p sum : ℕ} (g : Measuring t s r from p sum) where
-  pub measuring_on : {k : ℕ} → p < length (parts_of 4 r) → ((u : Value) → Drawing t s r p (get_or from p 0) u → k ≡ length (value.write u))
+module _ {t s r : List ℕ} {from : List (Maybe ℕ)} {p sum : ℕ} (g : Measuring t s r from p sum) where
+  pub measuring_on : {k : ℕ} → p < length (parts_of 4 r) → ((u : Value) → Drawing t s r p (get_or from p None) u → k ≡ length (value.write u))
       → Measuring t s r from (p + 1) (sum + (4 + k))
   measuring_on {k} h f = record {
     at = λ z d.
@@ -62,19 +62,19 @@ module _ {t s r from : List ℕ} {p sum : ℕ} (g : Measuring t s r from p sum) 
 -- ---- written
 
 -- the values before position p are written: their lengths up to `to`, their bytes up to `body`
-pub record Writing (t s r from o : List ℕ) (lengths p to body : ℕ) (o' : List ℕ) : Type 0 where
+pub record Writing (t s r : List ℕ) (from : List (Maybe ℕ)) (o : List ℕ) (lengths p to body : ℕ) (o' : List ℕ) : Type 0 where
   pub at : (z : Row) → RowDrawn t s r from z → Listed value z p o lengths to body o'
 
-pub writing_none : {t s r from o : List ℕ} {lengths n : ℕ} → n ≡ length (parts_of 4 r) → Writing t s r from o lengths 0 lengths (lengths + 4 * n) o
+pub writing_none : {t s r o : List ℕ} {from : List (Maybe ℕ)} {lengths n : ℕ} → n ≡ length (parts_of 4 r) → Writing t s r from o lengths 0 lengths (lengths + 4 * n) o
 writing_none c = record { at = λ z d. listed_none (omega (arith, c, row_count d)) }
 
-pub list_room : {t s r from o : List ℕ} {n : ℕ} → RowDrawsInto t s r from o → n ≡ length (parts_of 4 r) → 4 + 4 * n ≤ length o
+pub list_room : {t s r o : List ℕ} {from : List (Maybe ℕ)} {n : ℕ} → RowDrawsInto t s r from o → n ≡ length (parts_of 4 r) → 4 + 4 * n ≤ length o
 list_room m c = omega (arith, m.room, c, row_count m.drawn, row_long m.new)
 
-module _ {t s r from o₁ o₂ : List ℕ} {lengths p to body : ℕ} (g : Writing t s r from o₁ lengths p to body o₂) where
+module _ {t s r o₁ o₂ : List ℕ} {from : List (Maybe ℕ)} {lengths p to body : ℕ} (g : Writing t s r from o₁ lengths p to body o₂) where
   module _ (h : p < length (parts_of 4 r)) where
     module _ {o : List ℕ} (m : RowDrawsInto t s r from o) (b : lengths ≡ 4) (l : length o₁ ≡ length o) where
-      pub turn_room : DrawsInto t s r p (get_or from p 0) o₂ body
+      pub turn_room : DrawsInto t s r p (get_or from p None) o₂ body
       turn_room =
           let w : p < length m.new = omega (arith, row_count m.drawn) in
           let y = listed_space (g.at m.new m.drawn) (row_next m.new p w) in
@@ -90,7 +90,7 @@ module _ {t s r from o₁ o₂ : List ℕ} {lengths p to body : ℕ} (g : Writin
           let y = listed_space (g.at m.new m.drawn) (row_next m.new p w) in
           omega (arith, y.entry, y.part, y.long, b, l, m.room, row_long m.new)
 
-    pub writing_on : {o₃ o₄ : List ℕ} {to' after : ℕ} → ((u : Value) → Drawing t s r p (get_or from p 0) u → Wrote o₂ body (value.write u) after o₃)
+    pub writing_on : {o₃ o₄ : List ℕ} {to' after : ℕ} → ((u : Value) → Drawing t s r p (get_or from p None) u → Wrote o₂ body (value.write u) after o₃)
         → Wrote o₃ to (le 4 (after - body)) to' o₄ → Writing t s r from o₁ lengths (p + 1) to' after o₄
     writing_on f q = record {
       at = λ z d.

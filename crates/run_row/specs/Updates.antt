@@ -1,6 +1,6 @@
 -- The whole: what is known of the images, what is answered, and the rules' steps as the code makes them.
 -- Assumes nothing.
-use Rattle.std.specs.Prelude.{◌≡◌, refl, Bool, List, ℕ, ◌≤◌, length}
+use Rattle.std.specs.Prelude.{◌≡◌, refl, List, ℕ, ◌≤◌, length, Option as Maybe, Some, None, IsSome}
 use Rattle.std.proofs.Common.{sym, ap, ◌∙◌, subst, arith}
 use Rattle.std.proofs.Math.Bool.{true, false}
 use Rattle.std.proofs.Math.Option.{none, some, none-ne-some, some-injective}
@@ -10,13 +10,12 @@ use Rattle.bytes_format.specs.Ways.{next}
 use Rattle.bytes_bundle.specs.Held.{Holds, held}
 use Rattle.image_catalogue.specs.Layout.{table}
 use Rattle.run_position.specs.Drawing.{RowDrawn, RowDraws, RowDrawsInto}
-use Rattle.run_expression.specs.Works.{Says, Comes}
+use Rattle.run_expression.specs.Works.{Comes}
 use Rattle.image_expression.specs.Expression as image
 use Rattle.bind_where.specs.Short.{ShortExpression}
 use Rattle.run_plan.specs.Plans.{Drawn, Plans}
 use Rattle.run_plan.specs.Runs.{Runs, runs_row}
 use Rattle.image_row.specs.Layout.{row}
-use Rattle.rules.specs.Bound.{Value}
 use Rattle.rules.specs.Evaluate.{Worked, worked, fault, no_rule, evaluate, is_true, assigned, update_row}
 use Rattle.rules.specs.Rows.{Row}
 use Rattle.rules.specs.Statements.{Assignment, Expr}
@@ -24,16 +23,13 @@ use Rattle.rules.specs.Tables.{TableSchema}
 use Rattle.image_parts.specs.Layout.{assignment}
 use Rattle.bind_update.specs.Within.{ShortAssignments}
 use Rattle.run_values.specs.declared.Worth.{Worth}
-use Rattle.run_values.specs.Worths.{told, told_then, value_of}
-use Rattle.run_worth.specs.Written.{is_fault, truth_of, fault_none, some_value, truth_is}
-use Rattle.run_row.specs.declared.Ran.{Ran}
-use Rattle.run_row.specs.declared.Ran.TheVariants as answer
+use Rattle.run_values.specs.Worths.{told, heard, told_then, value_of}
 
 -- what is answered of a row that was worked out: its length; what has no rule is a fault too
-abbrev pub ran : Worked Row → Ran
-ran (worked z) = answer.Is (length (row.write z))
-ran fault = answer.Fault
-ran no_rule = answer.Fault
+abbrev pub ran : Worked Row → Maybe ℕ
+ran (worked z) = Some (length (row.write z))
+ran fault = None
+ran no_rule = None
 
 -- a table, the assignments and the condition of an UPDATE, and a row that obeys the table
 pub record Runnable (t s w r : List ℕ) : Type 0 where
@@ -58,10 +54,10 @@ pub record Writable (t s w r o : List ℕ) : Type 0 where
 
 -- what was measured, and has room, is writable
 pub writable : {t s w r o : List ℕ} {n : ℕ} {v : TableSchema} {xs : List Assignment} {y : Expr} {x : Row} → Runnable t s w r → Holds table t v
-    → Holds (list_of 2 assignment) s xs → Holds image.expression w y → Holds row r x → answer.Is n ≡ ran (update_row v y xs x) → n ≤ length o → Writable t s w r o
+    → Holds (list_of 2 assignment) s xs → Holds image.expression w y → Holds row r x → Some n ≡ ran (update_row v y xs x) → n ≤ length o → Writable t s w r o
 writable {t} {s} {w} {r} {o} {n} {v} {xs} {y} {x} u hv hs hy hx q m = go (update_row v y xs x) refl q
   where
-    go : (k : Worked Row) → update_row v y xs x ≡ k → answer.Is n ≡ ran k → Writable t s w r o
+    go : (k : Worked Row) → update_row v y xs x ≡ k → Some n ≡ ran k → Writable t s w r o
     go (worked z) e h =
         let l : n ≡ length (row.write z) = cc in
         record {
@@ -83,13 +79,13 @@ writable {t} {s} {w} {r} {o} {n} {v} {xs} {y} {x} u hv hs hy hx q m = go (update
 
 -- ---- heard
 
-ran_none : (k : Worked Row) → told k ≡ none → answer.Fault ≡ ran k
+ran_none : (k : Worked Row) → told k ≡ none → None ≡ ran k
 ran_none (worked z) h = absurd (none-ne-some z (sym h))
 ran_none fault h = refl
 ran_none no_rule h = refl
 
-ran_some : (k : Worked Row) {z : Row} {n : ℕ} → told k ≡ some z → n ≡ length (row.write z) → answer.Is n ≡ ran k
-ran_some (worked y) {z} h e = ap answer.Is (e ∙ ap (λ (x : Row). length (row.write x)) (sym (some-injective y z h)))
+ran_some : (k : Worked Row) {z : Row} {n : ℕ} → told k ≡ some z → n ≡ length (row.write z) → Some n ≡ ran k
+ran_some (worked y) {z} h e = ap Some (e ∙ ap (λ (x : Row). length (row.write x)) (sym (some-injective y z h)))
 ran_some fault {z} h e = absurd (none-ne-some z h)
 ran_some no_rule {z} h e = absurd (none-ne-some z h)
 
@@ -98,74 +94,74 @@ module _ (v : TableSchema) (y : Expr) (xs : List Assignment) (x : Row) where
   unfolding update_row
   update_told = told_then (evaluate v x y) (λ u. elim (is_true u) [ true ↦ assigned v x x xs | false ↦ worked x ])
 
-  module _ {e : List ℕ} {w : Worth} (s : Says x e w (told (evaluate v x y))) where
+  module _ (w : Maybe Worth) (s : heard value_of w ≡ told (evaluate v x y)) where
     -- the condition is a fault
-    update_none : is_fault w ≡ true → told (update_row v y xs x) ≡ none
-    update_none h = update_told ∙ rw (sym s.value ∙ fault_none x e w h)
+    update_none : w ≡ None → told (update_row v y xs x) ≡ none
+    update_none h = update_told ∙ rw (sym s ∙ ap (heard value_of) h)
 
-    pub ran_fault : is_fault w ≡ true → answer.Fault ≡ ran (update_row v y xs x)
+    pub ran_fault : w ≡ None → None ≡ ran (update_row v y xs x)
     ran_fault h = ran_none (update_row v y xs x) (update_none h)
 
-    -- it is not TRUE: the row as it is
-    kept : {u : Value} → value_of x e w ≡ some u → truth_of w ≡ false → told (update_row v y xs x) ≡ some x
-    kept {u} k h = update_told ∙ rw (sym s.value ∙ k, sym (truth_is x e w k) ∙ h)
-
-    update_kept : is_fault w ≡ false → truth_of w ≡ false → told (update_row v y xs x) ≡ some x
-    update_kept f h = let k = some_value x e s.sound f in kept k.1 h
-
-    -- it is TRUE: as it is assigned
-    assigns : {u : Value} → value_of x e w ≡ some u → truth_of w ≡ true → told (update_row v y xs x) ≡ told (assigned v x x xs)
-    assigns {u} k h = update_told ∙ rw (sym s.value ∙ k, sym (truth_is x e w k) ∙ h)
-
-    update_assigned : is_fault w ≡ false → truth_of w ≡ true → told (update_row v y xs x) ≡ told (assigned v x x xs)
-    update_assigned f h = let k = some_value x e s.sound f in assigns k.1 h
-
-    -- what is answered
-    pub ran_kept : is_fault w ≡ false → truth_of w ≡ false → {n : ℕ} → n ≡ length (row.write x) → answer.Is n ≡ ran (update_row v y xs x)
-    ran_kept f h e = ran_some (update_row v y xs x) (update_kept f h) e
-
-    pub ran_unplanned : is_fault w ≡ false → truth_of w ≡ true → (from : List ℕ) (b : Bool) → Plans v x xs from b → b ≡ false → answer.Fault ≡ ran (update_row v y xs x)
-    ran_unplanned f h from b p e = ran_none (update_row v y xs x) (update_assigned f h ∙ subst (Plans v x xs from) e p)
-
-    pub ran_planned : is_fault w ≡ false → truth_of w ≡ true → (from : List ℕ) (b : Bool) → Plans v x xs from b → b ≡ true → {n : ℕ}
-        → ((z : Row) → Drawn v x xs from z → n ≡ length (row.write z)) → answer.Is n ≡ ran (update_row v y xs x)
-    ran_planned f h from b p e g =
-        let q : Plans v x xs from true = subst (Plans v x xs from) e p in
-        ran_some (update_row v y xs x) (update_assigned f h ∙ q.1) (g q.0 q.2)
-
-    -- where the rules give a row, the condition is no fault
-    given_sound : {z : Row} → update_row v y xs x ≡ worked z → is_fault w ≡ false
-    given_sound {z} g = go (is_fault w) refl
+    -- where the rules give a row, it is none
+    pub given_some : {z : Row} → update_row v y xs x ≡ worked z → IsSome w
+    given_some {z} g = go w refl
       where
-        go : (b : Bool) → is_fault w ≡ b → is_fault w ≡ false
-        go true h = absurd (none-ne-some z (sym (update_none h) ∙ ap told g))
-        go false h = h
+        go : (m : Maybe Worth) → w ≡ m → IsSome m
+        go None h = absurd (none-ne-some z (sym (update_none h) ∙ ap told g))
+        go (Some u) h = refl
 
-    pub given_kept : {z : Row} → update_row v y xs x ≡ worked z → truth_of w ≡ false → x ≡ z
-    given_kept {z} g h = some-injective x z (sym (update_kept (given_sound g) h) ∙ ap told g)
+    module _ {u : Worth} (e : w ≡ Some u) where
+      -- it is not TRUE: the row as it is
+      update_kept : is_true (value_of u) ≡ false → told (update_row v y xs x) ≡ some x
+      update_kept h = update_told ∙ rw (sym s ∙ ap (heard value_of) e, h)
 
-    pub given_assigned : {z : Row} → update_row v y xs x ≡ worked z → truth_of w ≡ true → told (assigned v x x xs) ≡ some z
-    given_assigned g h = sym (update_assigned (given_sound g) h) ∙ ap told g
+      -- it is TRUE: as it is assigned
+      update_assigned : is_true (value_of u) ≡ true → told (update_row v y xs x) ≡ told (assigned v x x xs)
+      update_assigned h = update_told ∙ rw (sym s ∙ ap (heard value_of) e, h)
+
+      -- what is answered
+      pub ran_kept : is_true (value_of u) ≡ false → {n : ℕ} → n ≡ length (row.write x) → Some n ≡ ran (update_row v y xs x)
+      ran_kept h l = ran_some (update_row v y xs x) (update_kept h) l
+
+      pub ran_unplanned : is_true (value_of u) ≡ true → (f : Maybe (List (Maybe ℕ))) → Plans v x xs f → f ≡ None → None ≡ ran (update_row v y xs x)
+      ran_unplanned h f p q = ran_none (update_row v y xs x) (update_assigned h ∙ subst (Plans v x xs) q p)
+
+      pub ran_planned : is_true (value_of u) ≡ true → (f : Maybe (List (Maybe ℕ))) → Plans v x xs f → {from : List (Maybe ℕ)} → f ≡ Some from → {n : ℕ}
+          → ((z : Row) → Drawn v x xs from z → n ≡ length (row.write z)) → Some n ≡ ran (update_row v y xs x)
+      ran_planned h f p {from} q g =
+          let d : Plans v x xs (Some from) = subst (Plans v x xs) q p in
+          ran_some (update_row v y xs x) (update_assigned h ∙ d.1) (g d.0 d.2)
+
+      pub given_kept : {z : Row} → update_row v y xs x ≡ worked z → is_true (value_of u) ≡ false → x ≡ z
+      given_kept {z} g h = some-injective x z (sym (update_kept h) ∙ ap told g)
+
+      pub given_assigned : {z : Row} → update_row v y xs x ≡ worked z → is_true (value_of u) ≡ true → told (assigned v x x xs) ≡ some z
+      given_assigned g h = sym (update_assigned h) ∙ ap told g
 
 -- ---- the row by its plan
 
-pub plan_drawn : {v : TableSchema} {x : Row} {xs : List Assignment} {z : Row} (from : List ℕ) (b : Bool) → Plans v x xs from b → told (assigned v x x xs) ≡ some z
-    → Drawn v x xs from z
-plan_drawn {v} {x} {xs} {z} from true p h = subst (Drawn v x xs from) (some-injective p.0 z (sym p.1 ∙ h)) p.2
-plan_drawn {z = z} from false p h = absurd (none-ne-some z (sym p ∙ h))
+pub plan_some : (v : TableSchema) (x : Row) (xs : List Assignment) {z : Row} (f : Maybe (List (Maybe ℕ))) → Plans v x xs f → told (assigned v x x xs) ≡ some z → IsSome f
+plan_some v x xs (Some from) p h = refl
+plan_some v x xs {z} None p h = absurd (none-ne-some z (sym p ∙ h))
+
+pub plan_drawn : {v : TableSchema} {x : Row} {xs : List Assignment} {z : Row} (f : Maybe (List (Maybe ℕ))) → Plans v x xs f → {from : List (Maybe ℕ)} → f ≡ Some from
+    → told (assigned v x x xs) ≡ some z → Drawn v x xs from z
+plan_drawn {v} {x} {xs} {z} f p {from} q h =
+    let d : Plans v x xs (Some from) = subst (Plans v x xs) q p in
+    subst (Drawn v x xs from) (some-injective d.0 z (sym d.1 ∙ h)) d.2
 
 module _ {t s r : List ℕ} where
-  pub row_drawn : {v : TableSchema} {x : Row} {xs : List Assignment} {from : List ℕ} {z : Row} → Holds table t v → Holds row r x → Holds (list_of 2 assignment) s xs
+  pub row_drawn : {v : TableSchema} {x : Row} {xs : List Assignment} {from : List (Maybe ℕ)} {z : Row} → Holds table t v → Holds row r x → Holds (list_of 2 assignment) s xs
       → Drawn v x xs from z → RowDrawn t s r from z
   row_drawn {v} {x} {xs} hv hx hs d = record { schema = v; old = x; list = xs; holds = hv; reads = hx; lists = hs; drawn = d }
 
-  pub plan_draws : Runs t r → ShortAssignments s → (from : List ℕ) (b : Bool)
-      → ((v : TableSchema) (x : Row) (xs : List Assignment) → Holds table t v → Holds row r x → Holds (list_of 2 assignment) s xs → Plans v x xs from b)
-      → b ≡ true → RowDraws t s r from
-  plan_draws u m from b p e =
+  pub plan_draws : Runs t r → ShortAssignments s → (f : Maybe (List (Maybe ℕ)))
+      → ((v : TableSchema) (x : Row) (xs : List Assignment) → Holds table t v → Holds row r x → Holds (list_of 2 assignment) s xs → Plans v x xs f)
+      → {from : List (Maybe ℕ)} → f ≡ Some from → RowDraws t s r from
+  plan_draws u m f p {from} q =
       held u.schema (λ v hv. held (runs_row u) (λ x hx. held m.is (λ xs hs.
-      let q : Plans v x xs from true = subst (Plans v x xs from) e (p v x xs hv hx hs) in
-      record { new = q.0; drawn = row_drawn hv hx hs q.2 })))
+      let d : Plans v x xs (Some from) = subst (Plans v x xs) q (p v x xs hv hx hs) in
+      record { new = d.0; drawn = row_drawn hv hx hs d.2 })))
 
 -- the row's image as it is
 pub row_kept : {r : List ℕ} {x : Row} → Bytes r → Holds row r x → r ≡ row.write x
@@ -173,21 +169,28 @@ row_kept {r} {x} b h = (row.back r x b h).0
 
 -- ---- what is written, by what is known of it
 
-module _ {t s w r o : List ℕ} (k : Writable t s w r o) {m : Worth} (c : Comes t w r m) where
-  says : Says k.old w m (told (evaluate k.schema k.old k.condition))
+module _ {t s w r o : List ℕ} (k : Writable t s w r o) (m : Maybe Worth) (c : Comes t w r m) where
+  says : heard value_of m ≡ told (evaluate k.schema k.old k.condition)
   says = c k.schema k.holds k.old k.reads k.condition k.filters
 
-  pub kept_room : Bytes r → truth_of m ≡ false → length r ≤ length o
-  kept_room b h =
-      omega (arith, k.room, ap length (row_kept b k.reads), ap (λ (z : Row). length (row.write z)) (given_kept k.schema k.condition k.list k.old says k.gives h))
+  pub some_condition : IsSome m
+  some_condition = given_some k.schema k.condition k.list k.old m says k.gives
 
-  pub planned_room : truth_of m ≡ true → (from : List ℕ) (b : Bool)
-      → ((v : TableSchema) (x : Row) (xs : List Assignment) → Holds table t v → Holds row r x → Holds (list_of 2 assignment) s xs → Plans v x xs from b)
-      → RowDrawsInto t s r from o
-  planned_room h from b p = record {
-    new = k.new;
-    drawn =
-        row_drawn k.holds k.reads k.lists
-        (plan_drawn from b (p k.schema k.old k.list k.holds k.reads k.lists) (given_assigned k.schema k.condition k.list k.old says k.gives h));
-    room = k.room;
-  }
+  module _ {u : Worth} (e : m ≡ Some u) where
+    pub kept_room : Bytes r → is_true (value_of u) ≡ false → length r ≤ length o
+    kept_room b h =
+        omega (arith, k.room, ap length (row_kept b k.reads), ap (λ (z : Row). length (row.write z)) (given_kept k.schema k.condition k.list k.old m says e k.gives h))
+
+    module _ (h : is_true (value_of u) ≡ true) (f : Maybe (List (Maybe ℕ)))
+        (p : (v : TableSchema) (x : Row) (xs : List Assignment) → Holds table t v → Holds row r x → Holds (list_of 2 assignment) s xs → Plans v x xs f) where
+      pub some_plan : IsSome f
+      some_plan = plan_some k.schema k.old k.list f (p k.schema k.old k.list k.holds k.reads k.lists) (given_assigned k.schema k.condition k.list k.old m says e k.gives h)
+
+      pub planned_room : {from : List (Maybe ℕ)} → f ≡ Some from → RowDrawsInto t s r from o
+      planned_room q = record {
+        new = k.new;
+        drawn =
+            row_drawn k.holds k.reads k.lists
+            (plan_drawn f (p k.schema k.old k.list k.holds k.reads k.lists) q (given_assigned k.schema k.condition k.list k.old m says e k.gives h));
+        room = k.room;
+      }

@@ -1,6 +1,6 @@
 -- The new row, as the code finds it: a fault, or how long its image is; and then its bytes.
 -- Assumes nothing.
-use Rattle.std.specs.Prelude.{◌≡◌, refl, true, List, ℕ, ◌≤◌, ◌<◌, length}
+use Rattle.std.specs.Prelude.{◌≡◌, refl, true, List, ℕ, ◌≤◌, ◌<◌, length, Option as Maybe, Some, None}
 use Rattle.std.proofs.Common.{sym, ◌∙◌, arith}
 use Rattle.bytes_wire.specs.Sets.{Wrote}
 use Rattle.bytes_format.proofs.Formats.{list_of}
@@ -15,15 +15,13 @@ use Rattle.rules.specs.Rows.{Row, row_obeys}
 use Rattle.rules.specs.Statements.{Assignment, Expr}
 use Rattle.rules.specs.Tables.{TableSchema}
 use Rattle.image_parts.specs.Layout.{assignment}
-use Rattle.run_row.specs.declared.Ran.{Ran}
-use Rattle.run_row.specs.declared.Ran.TheVariants as answer
 use Rattle.run_row.specs.Updates.{ran, Runnable, Writable, writable}
 use Rattle.op_reply.specs.Leaves.{Leaves, reply, leaves_written}
 use Rattle.run_update.specs.Ready.{Holding}
 use Rattle.run_update.specs.OnRow.{update_bytes, update_fault, update_no_room, update_bytes_lem}
 
 -- a is what the row that is made of r comes to
-abbrev pub Sizes : List ℕ → List ℕ → List ℕ → List ℕ → Ran → Type 0
+abbrev pub Sizes : List ℕ → List ℕ → List ℕ → List ℕ → Maybe ℕ → Type 0
 Sizes t s w r a =
     (v : TableSchema) (xs : List Assignment) (y : Expr) (x : Row) → Holds table t v → Holds (list_of 2 assignment) s xs → Holds expression w y → Holds row r x
     → a ≡ ran (update_row v y xs x)
@@ -31,11 +29,11 @@ Sizes t s w r a =
 -- it is n bytes long
 pub record RowSized (t s w r : List ℕ) (n : ℕ) : Type 0 where
   pub runnable : Runnable t s w r
-  pub sizes : Sizes t s w r (answer.Is n)
+  pub sizes : Sizes t s w r (Some n)
 
 -- ---- by what is answered
 
-faulty : (k : Worked Row) → answer.Fault ≡ ran k → worked_out k ≡ refuses 11
+faulty : (k : Worked Row) → None ≡ ran k → worked_out k ≡ refuses 11
 faulty (worked z) e = absurd (let z : ◌≡◌ {A = ℕ} 0 1 = cc in omega arith)
 faulty fault e = refl
 faulty no_rule e = refl
@@ -45,7 +43,7 @@ record Made (k : Worked Row) (n : ℕ) : Type 0 where
   is : k ≡ worked new
   long : n ≡ length (row.write new)
 
-made : (k : Worked Row) {n : ℕ} → answer.Is n ≡ ran k → Made k n
+made : (k : Worked Row) {n : ℕ} → Some n ≡ ran k → Made k n
 made (worked z) e = record { new = z; is = refl; long = cc }
 made fault e = absurd (let z : ◌≡◌ {A = ℕ} 0 1 = cc in omega arith)
 made no_rule e = absurd (let z : ◌≡◌ {A = ℕ} 0 1 = cc in omega arith)
@@ -58,7 +56,7 @@ old_row {r = r} {v = v} p h k = obeyed_row v (row.read r) (p.runs.obeys.obeys v 
 
 module _ {t s w r : List ℕ} {u : Running} (h : Holding t s w u) (room : ℕ) where
   -- 11
-  pub row_faults : {a : Ran} → Runnable t s w r → Sizes t s w r a → a ≡ answer.Fault → update_bytes u r room ≡ refuses 11
+  pub row_faults : {a : Maybe ℕ} → Runnable t s w r → Sizes t s w r a → a ≡ None → update_bytes u r room ≡ refuses 11
   row_faults p q e =
       old_row p h.schema (λ x k o.
       update_fault u r room k o (faulty (update_row u.table u.condition u.assignments x)

@@ -11,7 +11,7 @@ ghost use Rattle.run_update.specs.Rows.{RowSized};
 
 use image_update::{assignments, condition_of};
 use op_reply::{Reply, refused};
-use run_row::{Ran, row_size, write_row};
+use run_row::{row_size, write_row};
 
 // A row whose image is this long: 9, or the image. Nothing is written before there is room for all of it.
 fn put_row<'a>(
@@ -43,8 +43,8 @@ fn run_row<'a>(t: &'a [u8], list: &'a [u8], w: &'a [u8], r: &'a [u8], out: &mut 
         → Leaves (update_bytes u r.now (length out.old)) out.old result out.new }
 {
     match row_size(t, list, w, r) {
-        Ran::Is(size) => put_row(t, list, w, r, out, size),
-        Ran::Fault => refused(11),
+        Some(size) => put_row(t, list, w, r, out, size),
+        None => refused(11),
     }
 }
 

@@ -1,6 +1,6 @@
 -- What a value that was worked out stands for, and what is heard of one that may be a fault.
 -- Assumes nothing.
-use Rattle.std.specs.Prelude.{◌≡◌, refl, ℕ, length, Option as Answer, Some, None}
+use Rattle.std.specs.Prelude.{◌≡◌, refl, ℕ, length, Option as Maybe, Some, None}
 use Rattle.std.proofs.Math.Option.{Option, none, some}
 use Rattle.bytes_format.specs.Ways.{next}
 use Rattle.rules.specs.declared.Ordinal.{Ordinal}
@@ -16,7 +16,7 @@ told fault = none
 told no_rule = none
 
 -- what the code answers, as the rules' option of what it stands for
-abbrev pub heard : {A B : Type 0} → (A → B) → Answer A → Option B
+abbrev pub heard : {A B : Type 0} → (A → B) → Maybe A → Option B
 heard f None = none
 heard f (Some a) = some (f a)
 
@@ -34,7 +34,7 @@ text_size (worth.Int z) = 0
 text_size (worth.Bool b) = 0
 text_size (worth.Text s) = length s.now
 
-abbrev pub text_size_of : Answer Worth → ℕ
+abbrev pub text_size_of : Maybe Worth → ℕ
 text_size_of None = 0
 text_size_of (Some w) = text_size w
 

@@ -8,9 +8,10 @@ use Rattle.run_plan.proofs.land.Goals as goal
 pub work_out-requires : goal.work_out-requires
 work_out-requires c = let p = c.requires in (p.0, assignment_value p.1 c.value_of.ensures)
 
-pub returns-then-is_fault : goal.returns-then-is_fault
-returns-then-is_fault c = λ v x y hv hx hy.
-    ap placed (sym (land_fault v x y (sym c.is_fault.ensures ∙ c.if-is_fault.true) (c.work_out.ensures v hv x hx y.value (c.value_of.ensures y hy))))
+pub returns-in_err-work_out : goal.returns-in_err-work_out
+returns-in_err-work_out c = λ v x y hv hx hy.
+    c.from_residual.ensures
+    ∙ ap placed (sym (land_fault v x y c.in_err-work_out.was (c.work_out.ensures.comes v hv x hx y.value (c.value_of.ensures y hy))))
 
 pub target_column-requires : goal.target_column-requires
 target_column-requires c =
@@ -20,7 +21,7 @@ target_column-requires c =
 pub returns-in-Ok : goal.returns-in-Ok
 returns-in-Ok c = λ v x y hv hx hy.
     let g = targeted_is (target_column v y.target) (c.target_column.ensures v y.target hv (c.target_of.ensures y hy)) c.in-Ok.is in
-    ap placed (sym (land_on v x y (sym c.is_fault.ensures ∙ c.if-is_fault.false) (c.work_out.ensures v hv x hx y.value (c.value_of.ensures y hy)) g))
+    ap placed (sym (land_on v x y c.in_ok-work_out.was (c.work_out.ensures.comes v hv x hx y.value (c.value_of.ensures y hy)) g))
 
 pub returns-in-Err : goal.returns-in-Err
 returns-in-Err c = λ v x y hv hx hy.

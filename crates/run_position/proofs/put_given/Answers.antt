@@ -1,12 +1,20 @@
 -- `run_position::put_given` meets its contract.
-use Rattle.run_position.specs.Drawing.{images, comes_sound, comes_room, comes_wrote}
+use mathlib.Core.Path.{ap}
+use native.Mathlib.Omega.{arith}
+use lib.ListN.{length}
+use Rattle.image_bound.specs.Written.{spelt}
+use Rattle.image_value.specs.Parts.{value}
+use Rattle.rules.specs.Bound.{Value}
+use Rattle.run_position.specs.Drawing.{comes_some, comes_value}
 use Rattle.run_position.proofs.put_given.Goals as goal
+
+pub unwrap-w-requires : goal.unwrap-w-requires
+unwrap-w-requires c = let g = c.requires.1 in comes_some c.work_out.result c.work_out.ensures.comes (record { worth = g.worth; comes = g.comes })
 
 pub put_worth-requires : goal.put_worth-requires
 put_worth-requires c =
-    let p = c.requires in
-    let w = c.work_out-w.ensures in
-    ((images p.0.0 p.0.1, comes_sound w p.0.0.schema p.0.1.is), comes_room w p.1)
+    let g = c.requires.1 in
+    omega (arith, g.room, ap (λ (v : Value). length (value.write v)) (comes_value c.work_out.result c.work_out.ensures.comes c.unwrap-w.ensures g.comes))
 
 pub returns : goal.returns
-returns c = comes_wrote c.work_out-w.ensures c.put_worth.ensures
+returns c = λ u d. spelt (ap value.write (comes_value c.work_out.result c.work_out.ensures.comes c.unwrap-w.ensures d)) c.put_worth.ensures

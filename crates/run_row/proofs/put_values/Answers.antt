@@ -23,7 +23,7 @@ pub overflow_add-body : goal.overflow_add-body
 overflow_add-body c = let q = c.requires in omega (arith, count_few q.0.0 q.1.drawn, c.parts-n.ensures, c.put_count-lengths.ensures.end)
 
 pub loop-p-init : goal.loop-p-init
-loop-p-init c = (omega arith, writing_none c.parts-n.ensures)
+loop-p-init c = writing_none c.parts-n.ensures
 
 pub offset_bounds-from-p : goal.offset_bounds-from-p
 offset_bounds-from-p c = let q = c.requires in omega (arith, count_few q.0.0 q.1.drawn, c.parts-n.ensures, c.loop-p-test.true)
@@ -34,29 +34,26 @@ bounds-from-p c = let q = c.requires in omega (arith, count_few q.0.0 q.1.drawn,
 pub put_value-after-requires : goal.put_value-after-requires
 put_value-after-requires c = (
   c.requires.0,
-  turn_room c.loop-p.invariant.1 (omega (arith, c.parts-n.ensures, c.loop-p-test.true)) c.requires.1 c.put_count-lengths.ensures.end (wrote_long c.put_count-lengths.ensures),
+  turn_room c.loop-p.invariant (omega (arith, c.parts-n.ensures, c.loop-p-test.true)) c.requires.1 c.put_count-lengths.ensures.end (wrote_long c.put_count-lengths.ensures),
 )
 
 pub overflow_sub-after : goal.overflow_sub-after
 overflow_sub-after c =
-    let m = turn_room c.loop-p.invariant.1 (omega (arith, c.parts-n.ensures, c.loop-p-test.true)) c.requires.1 c.put_count-lengths.ensures.end (wrote_long c.put_count-lengths.ensures) in
+    let m = turn_room c.loop-p.invariant (omega (arith, c.parts-n.ensures, c.loop-p-test.true)) c.requires.1 c.put_count-lengths.ensures.end (wrote_long c.put_count-lengths.ensures) in
     omega (arith, (c.put_value-after.ensures m.worth m.drawing).end)
 
 pub put-to-requires : goal.put-to-requires
 put-to-requires c =
-    let m = turn_room c.loop-p.invariant.1 (omega (arith, c.parts-n.ensures, c.loop-p-test.true)) c.requires.1 c.put_count-lengths.ensures.end (wrote_long c.put_count-lengths.ensures) in
-    omega (arith, wrote_long (c.put_value-after.ensures m.worth m.drawing), length_room c.loop-p.invariant.1 (omega (arith, c.parts-n.ensures, c.loop-p-test.true)) c.requires.1 c.put_count-lengths.ensures.end (wrote_long c.put_count-lengths.ensures))
+    let m = turn_room c.loop-p.invariant (omega (arith, c.parts-n.ensures, c.loop-p-test.true)) c.requires.1 c.put_count-lengths.ensures.end (wrote_long c.put_count-lengths.ensures) in
+    omega (arith, wrote_long (c.put_value-after.ensures m.worth m.drawing), length_room c.loop-p.invariant (omega (arith, c.parts-n.ensures, c.loop-p-test.true)) c.requires.1 c.put_count-lengths.ensures.end (wrote_long c.put_count-lengths.ensures))
 
 pub loop-p-preserved : goal.loop-p-preserved
-loop-p-preserved c = (
-  omega (arith, c.loop-p-test.true),
-  writing_on c.loop-p.invariant.1 (omega (arith, c.parts-n.ensures, c.loop-p-test.true)) c.put_value-after.ensures c.put-to.ensures,
-)
+loop-p-preserved c = writing_on c.loop-p.invariant (omega (arith, c.parts-n.ensures, c.loop-p-test.true)) c.put_value-after.ensures c.put-to.ensures
 
 pub shape_of-out : goal.shape_of-out
 shape_of-out c =
     let q = c.requires in
-    omega (arith, writing_long c.loop-p.invariant.1 q.1.new q.1.drawn, wrote_long c.put_count-lengths.ensures)
+    omega (arith, writing_long c.loop-p.invariant q.1.new q.1.drawn, wrote_long c.put_count-lengths.ensures)
 
 pub returns : goal.returns
-returns c = writing_end c.loop-p.invariant.1 c.parts-n.ensures c.loop-p-test.false c.put_count-lengths.ensures
+returns c = writing_end c.loop-p.invariant c.parts-n.ensures c.loop-p-test.false c.put_count-lengths.ensures

@@ -10,11 +10,11 @@ row_size-requires c = c.requires
 pub put_row-requires : goal.put_row-requires
 put_row-requires c = record {
   runnable = c.requires;
-  sizes = λ v xs y x hv hs hy hx. sym c.in-Is.is ∙ c.row_size.ensures v xs y x hv hs hy hx;
+  sizes = λ v xs y x hv hs hy hx. sym c.in-Some.is ∙ c.row_size.ensures v xs y x hv hs hy hx;
 }
 
-pub returns-in-Is : goal.returns-in-Is
-returns-in-Is c = c.put_row.ensures
+pub returns-in-Some : goal.returns-in-Some
+returns-in-Some c = c.put_row.ensures
 
-pub returns-in-Fault : goal.returns-in-Fault
-returns-in-Fault c = λ u h. leaves_as_it_was (row_faults h _ c.requires c.row_size.ensures c.in-Fault.is) c.refused.ensures
+pub returns-in-None : goal.returns-in-None
+returns-in-None c = λ u h. leaves_as_it_was (row_faults h _ c.requires c.row_size.ensures c.in-None.is) c.refused.ensures
