@@ -2,25 +2,22 @@
 #![tactic(auto)]
 
 ghost use Rattle.std.specs.Prelude.{length};
-ghost use Rattle.op_reply.specs.Leaves.{Leaves};
+ghost use Rattle.op_reply.specs.Leaves.{Leaves, told};
 ghost use Rattle.op_received.specs.Entry.{bind_bytes};
 
 use bind_statement::analyze;
 use bind_table::Measured;
 use op_put::put;
 use op_received::received;
-use op_reply::{Reply, class_number, refused};
+use op_reply::Refused;
 
 // The bound statement, or the first refusal of 5, 6, 7, 8, then 1 to 4, then 9.
-pub fn bind(statement: &[u8], catalogue: &[u8], out: &mut [u8]) -> Reply
-    ensures { Leaves (bind_bytes statement.now catalogue.now (length out.old)) out.old result out.new }
+pub fn bind(statement: &[u8], catalogue: &[u8], out: &mut [u8]) -> Result<usize, Refused>
+    ensures { Leaves (bind_bytes statement.now catalogue.now (length out.old)) out.old (told result) out.new }
 {
-    let number = received(statement, catalogue);
-    if number != 0 {
-        return refused(number);
-    }
+    received(statement, catalogue)?;
     match analyze(catalogue, statement) {
         Measured::Is(size) => put(statement, catalogue, out, size),
-        Measured::Refused(r) => refused(class_number(r)),
+        Measured::Refused(r) => Err(r.into()),
     }
 }
