@@ -6,9 +6,8 @@ use Rattle.std.proofs.Common.{ap}
 use Rattle.std.proofs.Math.Bool.{cond}
 use borrow.Author.Tests.{lt-ltb, le-ltb}
 use Rattle.rules.specs.Heard.{Outcome, refuses}
-use Rattle.op_reply.specs.declared.Reply.{Reply}
 use Rattle.op_received.specs.Entry.{bind_bytes}
-use Rattle.op_reply.specs.Leaves.{Hears, Leaves, reply, hears_refusal, hears_same}
+use Rattle.op_reply.specs.Leaves.{Reply, Hears, Leaves, reply, hears_refusal, hears_same}
 
 abbrev pub most : ℕ
 most = 65536

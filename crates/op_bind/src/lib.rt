@@ -2,24 +2,19 @@
 #![tactic(auto)]
 
 ghost use Rattle.std.specs.Prelude.{length};
-ghost use Rattle.op_reply.specs.Leaves.{Leaves};
+ghost use Rattle.op_reply.specs.Leaves.{Leaves, told};
 ghost use Rattle.op_received.specs.Entry.{bind_bytes};
 
 use bind_statement::analyze;
 use op_put::put;
 use op_received::received;
-use op_reply::{Reply, class_number, refused};
+use op_reply::Refused;
 
 // The bound statement, or the first refusal of 5, 6, 7, 8, then 1 to 4, then 9.
-pub fn bind(statement: &[u8], catalogue: &[u8], out: &mut [u8]) -> Reply
-    ensures { Leaves (bind_bytes statement.now catalogue.now (length out.old)) out.old result out.new }
+pub fn bind(statement: &[u8], catalogue: &[u8], out: &mut [u8]) -> Result<usize, Refused>
+    ensures { Leaves (bind_bytes statement.now catalogue.now (length out.old)) out.old (told result) out.new }
 {
-    let number = received(statement, catalogue);
-    if number != 0 {
-        return refused(number);
-    }
-    match analyze(catalogue, statement) {
-        Ok(size) => put(statement, catalogue, out, size),
-        Err(r) => refused(class_number(r)),
-    }
+    received(statement, catalogue)?;
+    let size = analyze(catalogue, statement)?;
+    put(statement, catalogue, out, size)
 }

@@ -2,13 +2,13 @@
 -- a catalogue alone, and of both.
 -- Assumes nothing.
 use Rattle.std.specs.Prelude.{◌≡◌, Bool, true, not, ◌&&◌, List, ℕ, eqb, length}
-use Rattle.std.proofs.Math.Path.{refl, sym, ap}
-use Rattle.std.proofs.Common.{◌∙◌, ne_eqb}
+use Rattle.std.proofs.Math.Path.{refl, sym, ap, ap₂}
+use Rattle.std.proofs.Common.{◌∙◌, ne_eqb, eq-eqb, arith}
 use Rattle.std.proofs.Math.Bool.{false, cond}
 use Rattle.std.proofs.lemmas.Bool.{false≢true}
 use Rattle.std.proofs.Math.Option.{Option, none, some, map}
 use Rattle.bytes_bundle.specs.Bundle.{is_there}
-use Rattle.bytes_bundle.specs.Held.{Holds}
+use Rattle.bytes_bundle.specs.Held.{Is, Holds}
 use Rattle.rules.specs.Tables.{Catalogue}
 use Rattle.rules.specs.Statements.{Statement}
 use Rattle.rules.specs.Limits.{statement_within, catalogue_within, names_beyond_ascii}
@@ -43,18 +43,32 @@ told_of_both s c = refusal (received (read_statement s) (read_catalogue c))
 -- ---- each number, where it is told
 
 module _ (s : List ℕ) where
-  pub no_statement : is_there (statement.read s) ≡ false → 5 ≡ told_of_statement s
-  unfolding told_of_statement
-  no_statement h = go (statement.read s) h
+  -- as the code tests it
+  pub absent : {k : ℕ} → k ≡ cond (is_there (statement.read s)) 0 5 → (k ≡ 0 → ⊥) → k ≡ 5
+  absent e n = go (is_there (statement.read s)) e n
     where
-      go : (m : Option Statement) → is_there m ≡ false → 5 ≡ of_statement (length s) m
-      go none e = refl
-      go (some v) e = absurd (false≢true (sym e))
+      go : (b : Bool) {k : ℕ} → k ≡ cond b 0 5 → (k ≡ 0 → ⊥) → k ≡ 5
+      go true e n = absurd (n e)
+      go false e n = e
 
-  module _ {v : Statement} (h : Holds statement s v) where
-    pub judged_statement_lem : {w b : Bool} → w ≡ statement_within (length s) v → b ≡ names_beyond_ascii v → cond w (cond b 8 0) 7 ≡ told_of_statement s
-    unfolding told_of_statement
-    judged_statement_lem {b = b} e f = ap (λ (t : Bool). cond t (cond b 8 0) 7) e ∙ ap (λ (t : Bool). cond (statement_within (length s) v) (cond t 8 0) 7) f ∙ sym (ap (of_statement (length s)) h)
+  pub there : ◌≡◌ {A = ℕ} 0 (cond (is_there (statement.read s)) 0 5) → Is statement s
+  there e = record { there = go (is_there (statement.read s)) e }
+    where
+      go : (b : Bool) → ◌≡◌ {A = ℕ} 0 (cond b 0 5) → b ≡ true
+      go true e = refl
+      go false e = absurd (omega arith)
+
+  pub absent_told : {k : ℕ} → k ≡ cond (is_there (statement.read s)) 0 5 → (k ≡ 0 → ⊥) → k ≡ told_of_statement s
+  unfolding told_of_statement
+  absent_told e n = go (statement.read s) e n
+    where
+      go : (m : Option Statement) {k : ℕ} → k ≡ cond (is_there m) 0 5 → (k ≡ 0 → ⊥) → k ≡ of_statement (length s) m
+      go none e n = e
+      go (some v) e n = absurd (n e)
+
+  pub judged_told : {v : Statement} → Holds statement s v → of_statement (length s) (some v) ≡ told_of_statement s
+  unfolding told_of_statement
+  judged_told h = sym (ap (of_statement (length s)) h)
 
   pub no_catalogue_lem : is_there (catalogue.read s) ≡ false → 6 ≡ told_of_catalogue s
   unfolding told_of_catalogue
@@ -100,13 +114,29 @@ module _ (s c : List ℕ) where
       go (some v) (some t) = both_there (statement_within (length s) v) (catalogue_within (length c) t) (names_beyond_ascii v) (v, t)
 
   -- as the code joins them
-  module _ {a : ℕ} (p : a ≡ told_of_statement s) where
-    pub no_statement_first : a ≡ 5 → a ≡ told_of_both s c
-    no_statement_first e = sym (both_joined ∙ simp (← p, e))
+  pub absent_first : {k : ℕ} → k ≡ cond (is_there (statement.read s)) 0 5 → (k ≡ 0 → ⊥) → k ≡ told_of_both s c
+  absent_first {k} e n =
+      let p : k ≡ told_of_statement s = absent_told s e n in
+      let f : k ≡ 5 = absent s e n in
+      sym (both_joined ∙ simp (← p, f))
 
-    module _ {b : ℕ} (q : b ≡ told_of_catalogue c) (n : a ≡ 5 → ⊥) where
-      pub catalogue_next : (b ≡ 0 → ⊥) → b ≡ told_of_both s c
-      catalogue_next m = sym (both_joined ∙ simp (← p, ← q, ne_eqb a 5 n, ne_eqb b 0 m))
+  not_absent : (v : Statement) → of_statement (length s) (some v) ≡ 5 → ⊥
+  not_absent v e = go (statement_within (length s) v) (names_beyond_ascii v) e
+    where
+      go : (w b : Bool) → ◌≡◌ {A = ℕ} (cond w (cond b 8 0) 7) 5 → ⊥
+      go true true e = omega arith
+      go true false e = omega arith
+      go false b e = omega arith
 
-      pub statement_last : b ≡ 0 → a ≡ told_of_both s c
-      statement_last e = sym (both_joined ∙ simp (← p, ← q, ne_eqb a 5 n, e))
+  module _ {v : Statement} (h : Holds statement s v) {b : ℕ} (q : b ≡ told_of_catalogue c) where
+    joined_told : told_of_both s c ≡ cond (eqb b 0) (of_statement (length s) (some v)) b
+    joined_told =
+        both_joined
+        ∙ ap₂ joined (sym (judged_told s h)) (sym q)
+        ∙ ap (λ (t : Bool). cond t 5 (cond (eqb b 0) (of_statement (length s) (some v)) b)) (ne_eqb (of_statement (length s) (some v)) 5 (not_absent v))
+
+    pub catalogue_next : (b ≡ 0 → ⊥) → b ≡ told_of_both s c
+    catalogue_next m = sym (joined_told ∙ ap (λ (t : Bool). cond t (of_statement (length s) (some v)) b) (ne_eqb b 0 m))
+
+    pub statement_last : b ≡ 0 → of_statement (length s) (some v) ≡ told_of_both s c
+    statement_last e = sym (joined_told ∙ ap (λ (t : Bool). cond t (of_statement (length s) (some v)) b) (eq-eqb b 0 e))

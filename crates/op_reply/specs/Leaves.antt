@@ -1,11 +1,74 @@
--- An outcome as the code answers it: a number, a length, and the output as it is then.
+-- An outcome as a caller hears it: a number, a length, and the output as it is then.
 -- Assumes nothing.
-use Rattle.std.specs.Prelude.{◌≡◌, refl, List, [], ◌∷◌, ◌++◌, ℕ, suc, ◌≤◌, length, set, drop}
+use Rattle.std.specs.Prelude.{◌≡◌, refl, Result, Ok, Err, List, [], ◌∷◌, ◌++◌, ℕ, suc, ◌≤◌, length, set, drop}
+use Rattle.std.specs.Result.{result_unwrap_or}
 use Rattle.std.proofs.Common.{sym, ap, ◌∙◌, arith}
 use Rattle.std.proofs.lemmas.List.Edits.{sets}
 use Rattle.bytes_wire.specs.Sets.{Wrote}
 use Rattle.rules.specs.Heard.{Outcome, refuses, answers}
-use Rattle.op_reply.specs.declared.Reply.{Reply}
+use Rattle.op_reply.specs.declared.Refused.{Refused}
+use Rattle.op_reply.specs.declared.Refused.TheVariants.{
+  SchemaMismatch,
+  ConstraintViolation,
+  UnsupportedSql,
+  InvalidArgument,
+  NoStatement,
+  NoCatalogue,
+  PastALimit,
+  NameBeyondAscii,
+  NoRoom,
+  NoRow,
+  Fault,
+  NoUpdate,
+}
+
+-- ---- the numbers
+
+abbrev pub number_of : Refused → ℕ
+number_of SchemaMismatch = 1
+number_of ConstraintViolation = 2
+number_of UnsupportedSql = 3
+number_of InvalidArgument = 4
+number_of NoStatement = 5
+number_of NoCatalogue = 6
+number_of PastALimit = 7
+number_of NameBeyondAscii = 8
+number_of NoRoom = 9
+number_of NoRow = 10
+number_of Fault = 11
+number_of NoUpdate = 12
+
+-- no refusal is told as an answer
+pub never_zero : (r : Refused) → number_of r ≡ 0 → ⊥
+never_zero SchemaMismatch e = omega arith
+never_zero ConstraintViolation e = omega arith
+never_zero UnsupportedSql e = omega arith
+never_zero InvalidArgument e = omega arith
+never_zero NoStatement e = omega arith
+never_zero NoCatalogue e = omega arith
+never_zero PastALimit e = omega arith
+never_zero NameBeyondAscii e = omega arith
+never_zero NoRoom e = omega arith
+never_zero NoRow e = omega arith
+never_zero Fault e = omega arith
+never_zero NoUpdate e = omega arith
+
+-- 0 where nothing is refused
+abbrev pub told_number : {A : Type 0} → Result A Refused → ℕ
+told_number (Ok a) = 0
+told_number (Err r) = number_of r
+
+-- what a caller hears: 0 and how many bytes were written, or the number of a refusal and 0
+pub record Reply : Type 0 where
+  pub refusal : ℕ
+  pub length : ℕ
+
+abbrev pub reply : ℕ → ℕ → Reply
+reply k n = record { refusal = k; length = n }
+
+-- the code's answer as numbers
+abbrev pub told : Result ℕ Refused → Reply
+told r = reply (told_number r) (result_unwrap_or r 0)
 
 -- ---- "A refusal answers its number with length 0, and the output holds the bytes it held before. Success answers the length written; bytes past
 -- it stay."
@@ -31,9 +94,6 @@ pub record Hears (o : Outcome (List ℕ)) (r : Reply) : Type 0 where
 pub record Leaves (o : Outcome (List ℕ)) (old : List ℕ) (r : Reply) (new : List ℕ) : Type 0 where
   pub hears : Hears o r
   pub output : new ≡ held o old
-
-abbrev pub reply : ℕ → ℕ → Reply
-reply k n = record { refusal = k; length = n }
 
 pub hears_refusal : {o : Outcome (List ℕ)} {r : Reply} {k : ℕ} → o ≡ refuses k → r ≡ reply k 0 → Hears o r
 hears_refusal e h = record {

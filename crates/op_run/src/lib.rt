@@ -12,7 +12,7 @@ ghost use Rattle.rules.specs.Heard.{Running};
 ghost use Rattle.rules.specs.Statements.{Statement};
 ghost use Rattle.rules.specs.Tables.{Catalogue};
 ghost use Rattle.image_parts.specs.Layout.{statement};
-ghost use Rattle.op_reply.specs.Leaves.{Leaves};
+ghost use Rattle.op_reply.specs.Leaves.{Leaves, told};
 ghost use Rattle.op_received.specs.Entry.{run_bytes};
 ghost use Rattle.run_update.specs.OnRow.{update_bytes};
 ghost use Rattle.op_run.specs.Runs.{BoundBy};
@@ -22,7 +22,7 @@ use bind_statement::analyze;
 use bind_table::resolve_direct_table;
 use image_update::table_of;
 use op_received::received;
-use op_reply::{Reply, class_number, refused};
+use op_reply::Refused;
 use run_update::run_over;
 
 // Whether a bound statement is an UPDATE by 01's dispatch: the raw text first, then the kind.
@@ -38,40 +38,35 @@ fn runnable(s: &[u8]) -> bool
 }
 
 // An UPDATE, which names its table.
-fn run_update<'a>(c: &'a [u8], b: &'a [u8], r: &'a [u8], out: &mut [u8]) -> Reply
+fn run_update<'a>(c: &'a [u8], b: &'a [u8], r: &'a [u8], out: &mut [u8]) -> Result<usize, Refused>
     requires { SomeStands c.now b.now }
     ensures { (u : Running) → Stands c.now b.now u
-        → Leaves (update_bytes u r.now (length out.old)) out.old result out.new }
+        → Leaves (update_bytes u r.now (length out.old)) out.old (told result) out.new }
 {
     match resolve_direct_table(c, table_of(b)) {
         Ok(t) => run_over(t, b, r, out),
         // never: the UPDATE is bound
-        Err(_) => refused(12),
+        Err(_) => Err(Refused::NoUpdate),
     }
 }
 
 // A statement that is bound: 12 before the row is looked at.
-fn run_bound<'a>(s: &'a [u8], c: &'a [u8], r: &'a [u8], out: &mut [u8]) -> Reply
+fn run_bound<'a>(s: &'a [u8], c: &'a [u8], r: &'a [u8], out: &mut [u8]) -> Result<usize, Refused>
     requires { BoundBy s.now c.now }
-    ensures { Leaves (run_bytes s.now c.now r.now (length out.old)) out.old result out.new }
+    ensures { Leaves (run_bytes s.now c.now r.now (length out.old)) out.old (told result) out.new }
 {
     if !runnable(s) {
-        return refused(12);
+        return Err(Refused::NoUpdate);
     }
     run_update(c, image_statement::kind_body(s), r, out)
 }
 
 // The row that the UPDATE makes of `row`, or the first refusal of 5, 6, 7, 8, then 1 to 4, then 12, 10, 11, 9.
-pub fn run<'a>(statement: &'a [u8], catalogue: &'a [u8], row: &'a [u8], out: &mut [u8]) -> Reply
+pub fn run<'a>(statement: &'a [u8], catalogue: &'a [u8], row: &'a [u8], out: &mut [u8]) -> Result<usize, Refused>
     ensures { Leaves (run_bytes statement.now catalogue.now row.now (length out.old))
-        out.old result out.new }
+        out.old (told result) out.new }
 {
-    let number = received(statement, catalogue);
-    if number != 0 {
-        return refused(number);
-    }
-    match analyze(catalogue, statement) {
-        Ok(size) => run_bound(statement, catalogue, row, out),
-        Err(r) => refused(class_number(r)),
-    }
+    received(statement, catalogue)?;
+    analyze(catalogue, statement)?;
+    run_bound(statement, catalogue, row, out)
 }

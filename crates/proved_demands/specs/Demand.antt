@@ -16,9 +16,8 @@ use Rattle.rules.specs.Evaluate.{worked, fault, update_row}
 use Rattle.rules.specs.Heard.{Read, judged_statement, ran_statement}
 use Rattle.rules.specs.Demand.{Taken, Room}
 use Rattle.image_row.specs.Layout as row
-use Rattle.op_reply.specs.declared.Reply.{Reply}
 use Rattle.op_received.specs.Entry.{read_statement, read_catalogue, bound_size, row_size, bind_bytes, run_bytes}
-use Rattle.op_reply.specs.Leaves.{Leaves}
+use Rattle.op_reply.specs.Leaves.{Reply, Leaves}
 
 -- ---- what a caller hears: the contracts of `op_bind::bind` and `op_run::run`
 

@@ -3,8 +3,7 @@
 use Rattle.std.specs.Prelude.{◌≡◌, List, ℕ}
 use Rattle.std.proofs.Common.{sym, ◌∙◌}
 use Rattle.rules.specs.Heard.{Outcome}
-use Rattle.op_reply.specs.declared.Reply.{Reply}
-use Rattle.op_reply.specs.Leaves.{Leaves}
+use Rattle.op_reply.specs.Leaves.{Reply, Leaves}
 
 -- "if two outcomes could satisfy it they are proved identical": the reply and every byte of the output are determined
 pub one_reply : {o : Outcome (List ℕ)} {old new new' : List ℕ} {r r' : Reply} → Leaves o old r new → Leaves o old r' new'

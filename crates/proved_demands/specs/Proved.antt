@@ -11,10 +11,9 @@ use Rattle.rules.specs.Statements.{Expr, Update}
 use Rattle.rules.specs.Tables.{TableSchema}
 use Rattle.rules.proofs.Theorems.Demand.{demand}
 use Rattle.image_row.specs.Layout as row
-use Rattle.op_reply.specs.declared.Reply.{Reply}
 use Rattle.proved_demands.specs.Answered.{answers_exactly, Faults, Comes, faults_or_comes}
 use Rattle.proved_demands.specs.Demand.{TakenBytes, RoomToBind, RoomToRun, BindReplies, RunReplies, Runs, Demand}
-use Rattle.op_reply.specs.Leaves.{refusal, written, held}
+use Rattle.op_reply.specs.Leaves.{Reply, refusal, written, held}
 use Rattle.proved_demands.specs.Zero.{zero_answers}
 
 module _ {s c : List ℕ} {u : Update} {t : TableSchema} {w : Expr} (h : TakenBytes s c u t w) where

@@ -2,45 +2,45 @@
 // here it is read and printed.
 #![tactic(auto)]
 
-use replay_record::{Of, Replayed, Tally};
+ghost use Rattle.std.specs.Io.{ReadsAtMost};
+
+use program_files::read_full;
+use replay_record::{Of, Tally};
 use replay_walk::replayed;
-use replay_walk::said::{read, say, say_damage, say_number};
+use std::fs::File;
 use std::io;
 use std::rt::Files;
 
-fn say_binds(rt: &impl Print, t: Tally) -> io::Result<()> {
-    say_number(rt, t.answered)?;
-    say(rt, b" bound, ")
+// How many bytes the file has, which are put at the front of `to`; all of `to` for a longer file. 0 where it can't be opened, with the reason
+// on standard error.
+fn read(rt: &(impl Files + Eprint), name: &str, to: &mut [u8]) -> io::Result<usize>
+    ensures { ReadsAtMost result to.new }
+{
+    match File::open(rt, name) {
+        Ok(mut file) => read_full(&mut file, to),
+        Err(error) => {
+            eprintln!(rt; "{name}: {error}")?;
+            Ok(0)
+        }
+    }
 }
 
-fn say_runs(rt: &impl Print, t: Tally) -> io::Result<()> {
-    say_number(rt, t.answered)?;
-    say(rt, b" rows, ")?;
-    say_number(rt, t.faults)?;
-    say(rt, b" faults, ")?;
-    say_number(rt, t.others)?;
-    say(rt, b" refused otherwise, ")
-}
-
-fn say_counts(rt: &impl Print, of: Of, t: Tally) -> io::Result<()> {
-    say_number(rt, t.cases)?;
-    say(rt, b" replayed: ")?;
+fn say(rt: &impl Print, name: &str, of: Of, tally: Tally) -> io::Result<()> {
+    let Tally {
+        cases,
+        answered,
+        faults,
+        others,
+        differences,
+    } = tally;
     match of {
-        Of::Binds => say_binds(rt, t)?,
-        Of::Runs => say_runs(rt, t)?,
+        Of::Binds => {
+            println!(rt; "{name}: {cases} replayed: {answered} bound, {differences} differences")
+        }
+        Of::Runs => {
+            println!(rt; "{name}: {cases} replayed: {answered} rows, {faults} faults, {others} refused otherwise, {differences} differences")
+        }
     }
-    say_number(rt, t.differences)?;
-    say(rt, b" differences\n")
-}
-
-fn say_all(rt: &impl Print, name: &str, of: Of, r: Replayed) -> io::Result<()> {
-    say(rt, name.as_bytes())?;
-    say(rt, b": ")?;
-    let t = r.tally;
-    if !r.is_whole {
-        return say_damage(rt, t.cases);
-    }
-    say_counts(rt, of, t)
 }
 
 // The record's name is its file's.
@@ -51,7 +51,10 @@ fn replay_in(
     space: &mut [u8],
 ) -> io::Result<()> {
     let n = read(rt, name, space)?;
-    say_all(rt, name, of, replayed(&space[..n], of))
+    match replayed(&space[..n], of) {
+        Ok(tally) => say(rt, name, of, tally),
+        Err(damaged) => println!(rt; "{name}: {damaged}"),
+    }
 }
 
 // An array's length is its type's: lent as a slice by `main`, it would be counted byte by byte in the proof.

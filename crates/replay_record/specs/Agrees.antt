@@ -7,8 +7,7 @@ use borrow.Author.Tests.{eqb-true, eqb-false, eq-eqb, ne_eqb, le-leb, lt-leb}
 use Rattle.std.proofs.Math.Dec.{leb-zero, eqb-zero-suc}
 use Rattle.rules.specs.Heard.{Outcome, refuses, answers}
 use Rattle.rules.specs.Lists.{same}
-use Rattle.op_reply.specs.declared.Reply.{Reply}
-use Rattle.op_reply.specs.Leaves.{refusal, written, held, Leaves}
+use Rattle.op_reply.specs.Leaves.{Reply, refusal, written, held, Leaves}
 
 -- ---- of an outcome: the record has its number, 0 where there is an answer, and the answer's bytes, none where it is refused
 

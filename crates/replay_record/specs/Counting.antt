@@ -1,17 +1,17 @@
 -- A record, replayed case by case: what is counted so far and what is left come to the whole.
 -- Assumes nothing.
-use Rattle.std.specs.Prelude.{◌≡◌, Bool, true, false, ◌&&◌, eqb, length, drop}
+use Rattle.std.specs.Prelude.{◌≡◌, Ok, Bool, true, false, ◌&&◌, eqb, length, drop}
 use Rattle.std.proofs.Math.Path.{refl, sym, ap}
 use Rattle.std.proofs.Common.{◌∙◌}
 use Rattle.std.proofs.Math.Bool.{cond}
 use mathlib.Core.List.{List, [], ◌∷◌}
 use Prim.Native.Nat.{ℕ, zero, suc, ◌+◌, ◌-◌, ◌^◌, ◌≤◌, ◌<◌}
 use native.Mathlib.Omega.{arith}
-use borrow.Author.Tests.{le-leb, lt-leb}
+use borrow.Author.Tests.{eq-eqb, ne_eqb, le-leb, lt-leb}
 use Rattle.bytes_wire.specs.Le.{Got}
 use Rattle.replay_record.specs.declared.Tally.{Tally}
 use Rattle.replay_record.specs.Layout.{answer, size, is_case, behind, cases_of, are_cases, cases, is_record}
-use Rattle.replay_record.specs.Counts.{bit, count, is_answered, is_fault, is_other, none, added, Few, replayed, Counted, Replays}
+use Rattle.replay_record.specs.Counts.{bit, count, is_answered, is_fault, is_other, none, added, Few, damaged, Counted, Replays}
 
 -- ---- one count
 
@@ -128,7 +128,7 @@ pub record Replaying (differs : List ℕ → Bool) (k : ℕ) (s : List ℕ) (lef
 
 module _ (differs : List ℕ → Bool) (k : ℕ) (s : List ℕ) where
   -- no room for the number of cases
-  pub replays_short : length s < 4 → Replays differs k s (replayed false none)
+  pub replays_short : length s < 4 → Replays differs k s (damaged none)
   unfolding cases is_record
   replays_short h =
       let e = lt-leb 4 (length s) h in
@@ -163,14 +163,20 @@ module _ (differs : List ℕ → Bool) (k : ℕ) (s : List ℕ) where
       counts = counting_more differs q (rw (cases_more k rest left h e) at r.counts);
     }
 
-    pub replays_broken : 0 < left → is_case k rest ≡ false → Replays differs k s (replayed false t)
+    pub replays_broken : 0 < left → is_case k rest ≡ false → Replays differs k s (damaged t)
     replays_broken h e = record {
       whole = sym (r.whole ∙ are_broken k rest left h e);
       counts = counting_end differs (rw (cases_broken k rest left h e) at r.counts);
     }
 
-    pub replays_all : left ≤ 0 → Replays differs k s (replayed (eqb (length rest) 0) t)
-    replays_all h = record {
-      whole = sym (r.whole ∙ are_none k rest left h);
+    pub replays_whole : left ≤ 0 → length rest ≡ 0 → Replays differs k s (Ok t)
+    replays_whole h e = record {
+      whole = sym (r.whole ∙ are_none k rest left h ∙ eq-eqb (length rest) 0 e);
+      counts = counting_end differs (rw (cases_none k rest left h) at r.counts);
+    }
+
+    pub replays_past : left ≤ 0 → (length rest ≡ 0 → ⊥) → Replays differs k s (damaged t)
+    replays_past h n = record {
+      whole = sym (r.whole ∙ are_none k rest left h ∙ ne_eqb (length rest) 0 n);
       counts = counting_end differs (rw (cases_none k rest left h) at r.counts);
     }

@@ -1,8 +1,8 @@
 -- What is counted of a record's cases.
 -- Assumes nothing.
-use Rattle.std.specs.Prelude.{◌≡◌, Bool, true, false, not, ◌&&◌, List, [], ◌∷◌, ℕ, ◌+◌, ◌^◌, ◌<◌, eqb, length}
+use Rattle.std.specs.Prelude.{◌≡◌, Result, Ok, Err, Bool, true, false, not, ◌&&◌, List, [], ◌∷◌, ℕ, ◌+◌, ◌^◌, ◌<◌, eqb, length}
 use Rattle.replay_record.specs.declared.Tally.{Tally}
-use Rattle.replay_record.specs.declared.Replayed.{Replayed}
+use Rattle.replay_record.specs.declared.Damaged.{Damaged}
 use Rattle.replay_record.specs.Layout.{answer, cases, is_record}
 
 abbrev pub bit : Bool → ℕ
@@ -46,8 +46,17 @@ pub record Few (t : Tally) : Type 0 where
   pub others : t.others < 2 ^ 32
   pub differences : t.differences < 2 ^ 32
 
-abbrev pub replayed : Bool → Tally → Replayed
-replayed b t = record { is_whole = b; tally = t }
+abbrev pub damaged : Tally → Result Tally Damaged
+damaged t = Err (record { tally = t })
+
+abbrev pub is_whole : Result Tally Damaged → Bool
+is_whole (Ok t) = true
+is_whole (Err d) = false
+
+-- of a record that is not whole, the cases in front of the damage
+abbrev pub tally_of : Result Tally Damaged → Tally
+tally_of (Ok t) = t
+tally_of (Err d) = d.tally
 
 -- t counts the cases l, of which those that pass a test differ
 pub record Counted (differs : List ℕ → Bool) (l : List (List ℕ)) (t : Tally) : Type 0 where
@@ -58,6 +67,6 @@ pub record Counted (differs : List ℕ → Bool) (l : List (List ℕ)) (t : Tall
   pub differences : t.differences ≡ count differs l
 
 -- ... of a whole record
-pub record Replays (differs : List ℕ → Bool) (k : ℕ) (s : List ℕ) (r : Replayed) : Type 0 where
-  pub whole : r.is_whole ≡ is_record k s
-  pub counts : Counted differs (cases k s) r.tally
+pub record Replays (differs : List ℕ → Bool) (k : ℕ) (s : List ℕ) (r : Result Tally Damaged) : Type 0 where
+  pub whole : is_whole r ≡ is_record k s
+  pub counts : Counted differs (cases k s) (tally_of r)

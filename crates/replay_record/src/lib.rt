@@ -5,10 +5,12 @@
 ghost use Rattle.std.specs.Prelude.{true, ◌≡◌, ◌+◌, ◌*◌, ◌≤◌, ◌<◌, length};
 ghost use Rattle.bytes_wire.specs.Le.{Got};
 ghost use Rattle.replay_record.specs.Layout.{parts_of, starts, part, most, is_case};
+ghost use Rattle.op_reply.specs.Leaves.{told};
 ghost use Rattle.replay_record.specs.Agrees.{agreeing};
-ghost use Rattle.replay_record.specs.Counts.{bit, is_other, added, none, replayed, Few};
+ghost use Rattle.replay_record.specs.Counts.{added, Few};
 
-use op_reply::Reply;
+use op_reply::{Refused, told_number};
+use std::fmt;
 
 // The longest room of a case.
 const MOST: usize = 4500;
@@ -25,8 +27,20 @@ pub enum Of {
     Runs,
 }
 
-// What was counted of some cases, by the answers that are expected.
-#[derive(Clone, Copy)]
+impl Of {
+    // Of a case.
+    pub fn parts(self) -> usize
+        ensures { (result ≡ parts_of self) × (result ≤ 4) }
+    {
+        match self {
+            Of::Binds => BIND_PARTS,
+            Of::Runs => RUN_PARTS,
+        }
+    }
+}
+
+// What was counted of some cases, by the answers that are expected: 0, 11, and any other.
+#[derive(Clone, Copy, Debug, Default)]
 pub struct Tally {
     pub cases: u64,
     pub answered: u64,
@@ -35,19 +49,32 @@ pub struct Tally {
     pub differences: u64,
 }
 
+impl Tally {
+    // One case more.
+    pub fn count(&mut self, number: u8, differs: bool)
+        requires { Few self.old }
+        ensures { self.new ≡ added self.old number differs }
+    {
+        self.cases += 1;
+        match number {
+            0 => self.answered += 1,
+            11 => self.faults += 1,
+            _ => self.others += 1,
+        }
+        self.differences += u64::from(differs);
+    }
+}
+
 // Of a record that is not whole, the cases in front of the damage are counted.
-#[derive(Clone, Copy)]
-pub struct Replayed {
-    pub is_whole: bool,
+#[derive(Clone, Copy, Debug)]
+pub struct Damaged {
     pub tally: Tally,
 }
 
-pub fn parts(of: Of) -> usize
-    ensures { (result ≡ parts_of of) × (result ≤ 4) }
-{
-    match of {
-        Of::Binds => BIND_PARTS,
-        Of::Runs => RUN_PARTS,
+// Cases are counted from 0.
+impl fmt::Display for Damaged {
+    fn fmt<W: fmt::Write>(&self, f: &mut fmt::Formatter<W>) -> fmt::Result {
+        write!(f, "the record is damaged at case {}", self.tally.cases)
     }
 }
 
@@ -65,10 +92,8 @@ fn starts(s: &[u8], k: usize, j: usize) -> usize
     ensures { result ≡ starts k j s.now }
 {
     let mut at = 5 + 4 * k;
-    let mut i = 0;
-    while i < j {
+    for i in 0..j {
         at += size(s, 5 + 4 * i);
-        i += 1;
     }
     at
 }
@@ -112,14 +137,22 @@ pub fn untouched() -> [u8; 4500]
 }
 
 // The number, the length, every byte, and the room behind them as it was.
-pub fn agrees(heard: Reply, number: u8, expected: &[u8], before: &[u8], out: &[u8]) -> bool
-    ensures { result ≡ agreeing heard number expected.now before.now out.now }
+pub fn agrees(
+    heard: Result<usize, Refused>,
+    number: u8,
+    expected: &[u8],
+    before: &[u8],
+    out: &[u8],
+) -> bool
+    ensures { result ≡ agreeing (told heard) number expected.now before.now out.now }
 {
-    if heard.refusal != number {
+    let told = told_number(heard);
+    if told != number {
         return false;
     }
+    let length = heard.unwrap_or(0);
     let end = expected.len();
-    if heard.length != end {
+    if length != end {
         return false;
     }
     if out.len() < end {
@@ -132,56 +165,4 @@ pub fn agrees(heard: Reply, number: u8, expected: &[u8], before: &[u8], out: &[u
         return false;
     }
     text_names::same(&out[end..], &before[end..])
-}
-
-// 1 for yes: what a count grows by.
-fn one(yes: bool) -> u64
-    ensures { (result ≡ bit yes) × (result ≤ 1) }
-{
-    if yes { 1 } else { 0 }
-}
-
-pub fn nothing() -> Tally
-    ensures { result ≡ none }
-{
-    Tally {
-        cases: 0,
-        answered: 0,
-        faults: 0,
-        others: 0,
-        differences: 0,
-    }
-}
-
-// Neither a row nor a fault is expected.
-fn is_other(number: u8) -> bool
-    ensures { result ≡ is_other number }
-{
-    if number == 0 {
-        return false;
-    }
-    number != 11
-}
-
-// One case more.
-pub fn counted(t: Tally, number: u8, differs: bool) -> Tally
-    requires { Few t }
-    ensures { result ≡ added t number differs }
-{
-    Tally {
-        cases: t.cases + 1,
-        answered: t.answered + one(number == 0),
-        faults: t.faults + one(number == 11),
-        others: t.others + one(is_other(number)),
-        differences: t.differences + one(differs),
-    }
-}
-
-pub fn ended(is_whole: bool, tally: Tally) -> Replayed
-    ensures { result ≡ replayed is_whole tally }
-{
-    Replayed {
-        is_whole: is_whole,
-        tally: tally,
-    }
 }

@@ -3,9 +3,8 @@
 use Rattle.std.specs.Prelude.{◌≡◌, Bool, not, List, ℕ, length}
 use Rattle.std.proofs.Common.{ap, ◌∙◌, subst}
 use Rattle.rules.specs.Heard.{Outcome}
-use Rattle.op_reply.specs.declared.Reply.{Reply}
 use Rattle.op_received.specs.Entry.{bind_bytes, run_bytes}
-use Rattle.op_reply.specs.Leaves.{Leaves}
+use Rattle.op_reply.specs.Leaves.{Reply, Leaves}
 use Rattle.replay_record.specs.declared.Of.TheVariants.{Binds, Runs}
 use Rattle.replay_record.specs.Layout.{answer, room, part}
 use Rattle.replay_record.specs.Agrees.{is_recorded, agreeing, agreeing_is}

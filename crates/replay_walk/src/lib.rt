@@ -2,8 +2,6 @@
 // `replay_record` says how a record is laid out.
 #![tactic(auto)]
 
-pub mod said;
-
 ghost use Rattle.std.specs.Prelude.{true, ◌≡◌, length};
 ghost use Rattle.replay_record.specs.declared.Of.TheVariants as of;
 ghost use Rattle.replay_record.specs.Layout.{parts_of, room, is_case};
@@ -13,8 +11,7 @@ ghost use Rattle.replay_walk.specs.Differs.{differs};
 use op_bind::bind;
 use op_run::run;
 use replay_record::{
-    BIND_PARTS, Of, RUN_PARTS, Replayed, agrees, case_length, counted, ended, is_case, nothing,
-    part, parts, size, untouched,
+    BIND_PARTS, Damaged, Of, RUN_PARTS, Tally, agrees, case_length, is_case, part, size, untouched,
 };
 
 // These three are over an output as long as the case says, which still holds `before`.
@@ -60,25 +57,28 @@ fn differs(s: &[u8], of: Of) -> bool
     differs_in(s, of, &before[..end], &mut out[..end])
 }
 
-pub fn replayed(bytes: &[u8], of: Of) -> Replayed
+pub fn replayed(bytes: &[u8], of: Of) -> Result<Tally, Damaged>
     ensures { Replays (differs of) (parts_of of) bytes.now result }
 {
+    let mut tally = Tally::default();
     if bytes.len() < 4 {
-        return ended(false, nothing());
+        return Err(Damaged { tally });
     }
-    let k = parts(of);
-    let mut tally = nothing();
-    let mut left = size(bytes, 0);
+    let k = of.parts();
+    let cases = size(bytes, 0);
     let start = 4;
     let mut rest = &bytes[start..];
-    while 0 < left {
+    for _ in 0..cases {
         if !is_case(rest, k) {
-            return ended(false, tally);
+            return Err(Damaged { tally });
         }
-        tally = counted(tally, rest[0], differs(rest, of));
+        tally.count(rest[0], differs(rest, of));
         let end = case_length(rest, k);
         rest = &rest[end..];
-        left -= 1;
     }
-    ended(rest.len() == 0, tally)
+    if rest.is_empty() {
+        Ok(tally)
+    } else {
+        Err(Damaged { tally })
+    }
 }

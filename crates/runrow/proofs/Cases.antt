@@ -6,9 +6,8 @@ use Rattle.std.proofs.Math.Path.{subst}
 use borrow.Author.Tests.{lt-ltb, le-ltb}
 use Rattle.std.proofs.Math.Seq.{take-append_seam}
 use Rattle.rules.specs.Heard.{Outcome, refuses, answers}
-use Rattle.op_reply.specs.declared.Reply.{Reply}
 use Rattle.op_received.specs.Entry.{run_bytes}
-use Rattle.op_reply.specs.Leaves.{Leaves, reply, leaves_as_it_was}
+use Rattle.op_reply.specs.Leaves.{Reply, Leaves, reply, leaves_as_it_was}
 use Rattle.runrow.specs.Ran.{most, is_long, ran_bytes}
 use Rattle.runrow.specs.Zero.{Numbered, test_numbered, run_numbered}
 

@@ -3,39 +3,35 @@
 #![tactic(auto)]
 
 ghost use Rattle.std.specs.Prelude.{◌≡◌, length};
-ghost use Rattle.std.specs.Io.{ReadsAtMost};
 ghost use Rattle.rules.specs.Heard.{refuses, answers};
-ghost use Rattle.op_reply.specs.Leaves.{Leaves};
+ghost use Rattle.op_reply.specs.Leaves.{Leaves, told, number_of};
 ghost use Rattle.runrow.specs.Ran.{most, ran_bytes};
 
-use op_reply::{Reply, refused};
+use op_reply::Refused;
 use op_run::run;
+use program_files::{read_file, read_full};
 use std::fs::{self, File, OpenFile};
-use std::io::{self, ErrorKind, Read, Write};
+use std::io::{self, ErrorKind, Write};
 use std::rt::Files;
 
 // The longest input that is judged, and the room for the answer.
 const MOST: usize = 65536;
 
 // What `run` answers; 7 for a longer input, whatever it holds.
-fn ran<'a>(statement: &'a [u8], catalogue: &'a [u8], row: &'a [u8], out: &mut [u8]) -> Reply
+fn ran<'a>(statement: &'a [u8], catalogue: &'a [u8], row: &'a [u8], out: &mut [u8]) -> Result<usize, Refused>
     requires { most ≡ length out.old }
-    ensures { Leaves (ran_bytes statement.now catalogue.now row.now) out.old result out.new }
+    ensures { Leaves (ran_bytes statement.now catalogue.now row.now) out.old (told result) out.new }
 {
     if MOST < statement.len() {
-        return refused(7);
+        return Err(Refused::PastALimit);
     }
     if MOST < catalogue.len() {
-        return refused(7);
+        return Err(Refused::PastALimit);
     }
     if MOST < row.len() {
-        return refused(7);
+        return Err(Refused::PastALimit);
     }
     run(statement, catalogue, row, out)
-}
-
-fn say(rt: &impl Print, words: &str, number: u64) -> io::Result<()> {
-    println!(rt; "{words}{number}")
 }
 
 // Writes all of `new`. Nobody hears of a failure when the file is closed, so it is synced first; `InvalidInput` is the answer of what keeps
@@ -71,7 +67,7 @@ fn keep<'a>(
         eprintln!(rt; "new-row: {error}")?;
         return println!(rt; "not written");
     }
-    say(rt, "row ", new.len() as u64)
+    println!(rt; "row {}", new.len())
 }
 
 // Likewise, no other refusal is said.
@@ -80,11 +76,11 @@ fn refuse<'a>(
     statement: &'a [u8],
     catalogue: &'a [u8],
     row: &'a [u8],
-    number: u8,
+    refused: Refused,
 ) -> io::Result<()>
-    requires { ran_bytes statement.now catalogue.now row.now ≡ refuses number }
+    requires { ran_bytes statement.now catalogue.now row.now ≡ refuses (number_of refused) }
 {
-    say(rt, "refused ", number as u64)
+    println!(rt; "{refused}")
 }
 
 fn run_row<'a>(
@@ -94,36 +90,9 @@ fn run_row<'a>(
     row: &'a [u8],
 ) -> io::Result<()> {
     let mut out = [0u8; 65536];
-    let heard = ran(statement, catalogue, row, &mut out);
-    if heard.refusal != 0 {
-        return refuse(rt, statement, catalogue, row, heard.refusal);
-    }
-    let length = heard.length;
-    keep(rt, statement, catalogue, row, &out[..length])
-}
-
-// Reads until `space` is full or the input ends, and returns how many bytes it put at the front of `space`.
-fn read_full(input: &mut impl Read, space: &mut [u8]) -> io::Result<usize>
-    ensures { ReadsAtMost result space.new }
-{
-    let mut done = 0;
-    while done < space.len() {
-        let n = input.read(&mut space[done..])?;
-        if n == 0 {
-            break;
-        }
-        done += n;
-    }
-    Ok(done)
-}
-
-// How many bytes the file put at the front of `space`: 0 where it can't be opened.
-fn read_image(rt: &impl Files, name: &str, space: &mut [u8]) -> io::Result<usize>
-    ensures { ReadsAtMost result space.new }
-{
-    match File::open(rt, name) {
-        Ok(mut file) => read_full(&mut file, space),
-        Err(_) => Ok(0),
+    match ran(statement, catalogue, row, &mut out) {
+        Ok(length) => keep(rt, statement, catalogue, row, &out[..length]),
+        Err(refused) => refuse(rt, statement, catalogue, row, refused),
     }
 }
 
@@ -132,8 +101,8 @@ fn main(rt: HostRuntime) -> io::Result<()> {
     let mut tables = [0u8; 65537];
     let mut old = [0u8; 65537];
     let mut space = [0u8; 65537];
-    let length = read_image(&rt, "catalogue", &mut tables)?;
-    let width = read_image(&rt, "row", &mut old)?;
+    let length = read_file(&rt, "catalogue", &mut tables)?;
+    let width = read_file(&rt, "row", &mut old)?;
     let size = read_full(&mut rt.stdin(), &mut space)?;
     run_row(&rt, &space[..size], &tables[..length], &old[..width])
 }

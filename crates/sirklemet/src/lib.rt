@@ -12,6 +12,8 @@ ghost use Rattle.op_reply.specs.Leaves.{Leaves, reply};
 ghost use Rattle.op_received.specs.Told.{told_of_statement, told_of_catalogue};
 ghost use Rattle.sirklemet.specs.Told.{told_obeys};
 
+use op_reply::told_number;
+
 // 0, with `written` bytes of the bound statement at the front of `out`; or the number of a refusal, with `written` 0 and `out` as it was.
 #[unsafe(no_mangle)]
 pub extern "C" fn sirklemet_bind(
@@ -24,8 +26,8 @@ pub extern "C" fn sirklemet_bind(
         (reply result written.new) out.new }
 {
     let heard = op_bind::bind(statement, catalogue, out);
-    *written = heard.length;
-    heard.refusal
+    *written = heard.unwrap_or(0);
+    told_number(heard)
 }
 
 // The same of an UPDATE that is run on one row: the new row at the front of `out`, or a refusal.
@@ -41,8 +43,8 @@ pub extern "C" fn sirklemet_run<'a>(
         out.old (reply result written.new) out.new }
 {
     let ran = op_run::run(statement, catalogue, row, out);
-    *written = ran.length;
-    ran.refusal
+    *written = ran.unwrap_or(0);
+    told_number(ran)
 }
 
 #[unsafe(no_mangle)]
@@ -57,7 +59,7 @@ pub extern "C" fn sirklemet_is_statement(bytes: &[u8]) -> bool
 pub extern "C" fn sirklemet_read_statement(bytes: &[u8]) -> u8
     ensures { result ≡ told_of_statement bytes.now }
 {
-    op_received::read_statement(bytes)
+    told_number(op_received::read_statement(bytes))
 }
 
 #[unsafe(no_mangle)]
@@ -72,7 +74,7 @@ pub extern "C" fn sirklemet_is_catalogue(bytes: &[u8]) -> bool
 pub extern "C" fn sirklemet_read_catalogue(bytes: &[u8]) -> u8
     ensures { result ≡ told_of_catalogue bytes.now }
 {
-    op_received::read_catalogue(bytes)
+    told_number(op_received::read_catalogue(bytes))
 }
 
 // Of whatever table.

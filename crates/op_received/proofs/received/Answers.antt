@@ -1,18 +1,24 @@
 -- `op_received::received` meets its contract: what is told of both is joined of what is told of each.
-use Rattle.op_received.specs.Told.{no_statement_first, catalogue_next, statement_last}
+use Rattle.std.proofs.Common.{◌≡◌, ℕ, refl, ◌∙◌}
+use Rattle.std.proofs.lemmas.Result.{err_from_is_err_and}
+use Rattle.bytes_bundle.specs.Held.{held}
+use Rattle.op_reply.specs.Leaves.{never_zero}
+use Rattle.op_received.specs.Told.{there, absent_first, catalogue_next, statement_last}
 use Rattle.op_received.proofs.received.Goals as goal
 
-pub returns-then-of_statement-eq5 : goal.returns-then-of_statement-eq5
-returns-then-of_statement-eq5 c =
-    let a = c.args in
-    no_statement_first a.s.now a.c.now c.read_statement-of_statement.ensures c.if-of_statement-eq5.true
+pub returns-in_err-is_statement : goal.returns-in_err-is_statement
+returns-in_err-is_statement c =
+    let p = err_from_is_err_and c.from_residual.result c.from_residual.ensures.1 in
+    rw (p.1, p.2) (absent_first c.args.s.now c.args.c.now c.in_err-is_statement.ensures (never_zero c.in_err-is_statement.field-0.0))
 
-pub returns-then-of_catalogue-ne0 : goal.returns-then-of_catalogue-ne0
-returns-then-of_catalogue-ne0 c =
-    let a = c.args in
-    catalogue_next a.s.now a.c.now c.read_statement-of_statement.ensures c.read_catalogue-of_catalogue.ensures c.if-of_statement-eq5.false c.if-of_catalogue-ne0.true
+pub returns-in_err-read_catalogue : goal.returns-in_err-read_catalogue
+returns-in_err-read_catalogue c =
+    let r = c.from_residual-in_err-read_catalogue in
+    let p = err_from_is_err_and r.result r.ensures.1 in
+    let e = c.in_err-read_catalogue in
+    rw (p.1, p.2) (held (there c.args.s.now c.in_ok-is_statement.ensures) (λ v h. catalogue_next c.args.s.now c.args.c.now h e.ensures (never_zero e.field-0.0)))
 
 pub returns : goal.returns
 returns c =
-    let a = c.args in
-    statement_last a.s.now a.c.now c.read_statement-of_statement.ensures c.read_catalogue-of_catalogue.ensures c.if-of_statement-eq5.false c.if-of_catalogue-ne0.false
+    held (there c.args.s.now c.in_ok-is_statement.ensures) (λ v h.
+    c.judged.ensures v h ∙ statement_last c.args.s.now c.args.c.now h c.in_ok-read_catalogue.ensures (let z : ◌≡◌ {A = ℕ} 0 0 = refl in z))

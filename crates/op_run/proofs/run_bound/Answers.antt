@@ -7,7 +7,7 @@ use Rattle.op_run.specs.Asked.{Asked, runnable_is}
 use Rattle.op_run.specs.Runs.{run_no_update, run_update}
 use Rattle.op_run.specs.Stands.{stands}
 use Rattle.op_run.proofs.run_bound.Goals.{Else-not-runnable}
-use Rattle.std.proofs.Common.{ap}
+use Rattle.std.proofs.Common.{refl, ap}
 use Rattle.std.proofs.Common.{not}
 use Rattle.op_run.proofs.run_bound.Goals as goal
 
@@ -19,7 +19,7 @@ returns-then-not-runnable c =
     let p = c.requires in
     leaves_as_it_was
     (run_no_update _ _ _ _ p (failed (c.runnable.ensures p.both.tables p.both.value p.value p.both.holds p.gives) (ap not c.if-not-runnable.true)))
-    c.refused.ensures
+    refl
 
 -- behind the test: what is run
 change : (c : Else-not-runnable) → Asked c.requires.both.tables c.requires.both.value

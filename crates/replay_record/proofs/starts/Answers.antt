@@ -7,12 +7,12 @@ use Rattle.replay_record.specs.Cases.{starts_first, starts_more}
 use Rattle.replay_record.proofs.starts.Goals as goal
 
 pub loop-i-init : goal.loop-i-init
-loop-i-init c = (sym (starts_first _ _), omega arith, omega arith)
+loop-i-init c = (sym (starts_first _ _), omega arith)
 
 pub loop-i-preserved : goal.loop-i-preserved
 loop-i-preserved c =
     let a = c.args in
-    (omega (arith, starts_more a.k c.loop-i.i a.s.now, c.size-at.ensures.is), omega (arith, c.size-at.ensures.fits), omega arith)
+    (omega (arith, starts_more a.k c.loop-i.i a.s.now, c.size-at.ensures.is), omega (arith, c.size-at.ensures.fits))
 
 pub returns : goal.returns
 returns c =

@@ -6,7 +6,7 @@ use Rattle.image_parts.specs.Layout.{updating}
 use Rattle.op_reply.specs.Leaves.{leaves_as_it_was}
 use Rattle.run_update.specs.Ready.{holding, ready}
 use Rattle.run_update.specs.OnRow.{update_no_row}
-use Rattle.std.proofs.Common.{ap}
+use Rattle.std.proofs.Common.{refl, ap}
 use Rattle.std.proofs.Common.{not}
 use Rattle.run_update.proofs.run_over.Goals as goal
 
@@ -15,7 +15,7 @@ obeys-requires c = is_held {f = table} c.requires.is.holds
 
 pub returns-then-not-obeys : goal.returns-then-not-obeys
 returns-then-not-obeys c = λ u o.
-    leaves_as_it_was (update_no_row u c.args.r.now _ (failed (c.obeys.ensures u.table o.holds) (ap not c.if-not-obeys.true))) c.refused.ensures
+    leaves_as_it_was (update_no_row u c.args.r.now _ (failed (c.obeys.ensures u.table o.holds) (ap not c.if-not-obeys.true))) refl
 
 pub assignments-requires : goal.assignments-requires
 assignments-requires c = is_held {f = updating} c.requires.is.reads

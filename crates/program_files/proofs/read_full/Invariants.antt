@@ -1,6 +1,6 @@
 -- `read_full` ends, since each turn leaves less to fill.
 use Rattle.std.proofs.Common.{◌≡◌, ◌-◌, ◌≤◌, length}
-use Rattle.replay_walk.proofs.said.read_full.Given as goal
+use Rattle.program_files.proofs.read_full.Given as goal
 
 abbrev pub invariant-loop-done : goal.invariant-loop-done
 invariant-loop-done g l = (length l.space ≡ length l.initial.space) × (l.done ≤ length l.space)
