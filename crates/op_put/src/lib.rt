@@ -10,7 +10,12 @@ use op_reply::Refused;
 use write_statement::write;
 
 // Of a statement whose bound image is this long: the image, where there is room. Nothing is written before there is room for all of it.
-pub fn put(statement: &[u8], catalogue: &[u8], out: &mut [u8], size: usize) -> Result<usize, Refused>
+pub fn put(
+    statement: &[u8],
+    catalogue: &[u8],
+    out: &mut [u8],
+    size: usize,
+) -> Result<usize, Refused>
     requires { Measures statement.now catalogue.now size }
     ensures { Leaves (bind_bytes statement.now catalogue.now (length out.old)) out.old (told result) out.new }
 {

@@ -62,7 +62,12 @@ fn run_bound<'a>(s: &'a [u8], c: &'a [u8], r: &'a [u8], out: &mut [u8]) -> Resul
 }
 
 // The row that the UPDATE makes of `row`, or the first refusal of 5, 6, 7, 8, then 1 to 4, then 12, 10, 11, 9.
-pub fn run<'a>(statement: &'a [u8], catalogue: &'a [u8], row: &'a [u8], out: &mut [u8]) -> Result<usize, Refused>
+pub fn run<'a>(
+    statement: &'a [u8],
+    catalogue: &'a [u8],
+    row: &'a [u8],
+    out: &mut [u8],
+) -> Result<usize, Refused>
     ensures { Leaves (run_bytes statement.now catalogue.now row.now (length out.old))
         out.old (told result) out.new }
 {

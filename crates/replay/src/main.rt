@@ -38,7 +38,9 @@ fn say(rt: &impl Print, name: &str, of: Of, tally: Tally) -> io::Result<()> {
             println!(rt; "{name}: {cases} replayed: {answered} bound, {differences} differences")
         }
         Of::Runs => {
-            println!(rt; "{name}: {cases} replayed: {answered} rows, {faults} faults, {others} refused otherwise, {differences} differences")
+            println!(rt;
+                "{name}: {cases} replayed: {answered} rows, {faults} faults, {others} refused otherwise, {differences} differences"
+            )
         }
     }
 }

@@ -34,7 +34,13 @@ fn put_row<'a>(
 }
 
 // On a row that obeys the table: 11 before 9.
-fn run_row<'a>(t: &'a [u8], list: &'a [u8], w: &'a [u8], r: &'a [u8], out: &mut [u8]) -> Result<usize, Refused>
+fn run_row<'a>(
+    t: &'a [u8],
+    list: &'a [u8],
+    w: &'a [u8],
+    r: &'a [u8],
+    out: &mut [u8],
+) -> Result<usize, Refused>
     requires { Runnable t.now list.now w.now r.now }
     ensures { (u : Running) → Holding t.now list.now w.now u
         → Leaves (update_bytes u r.now (length out.old)) out.old (told result) out.new }

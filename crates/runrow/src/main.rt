@@ -18,7 +18,12 @@ use std::rt::Files;
 const MOST: usize = 65536;
 
 // What `run` answers; 7 for a longer input, whatever it holds.
-fn ran<'a>(statement: &'a [u8], catalogue: &'a [u8], row: &'a [u8], out: &mut [u8]) -> Result<usize, Refused>
+fn ran<'a>(
+    statement: &'a [u8],
+    catalogue: &'a [u8],
+    row: &'a [u8],
+    out: &mut [u8],
+) -> Result<usize, Refused>
     requires { most ≡ length out.old }
     ensures { Leaves (ran_bytes statement.now catalogue.now row.now) out.old (told result) out.new }
 {
