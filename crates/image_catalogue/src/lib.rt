@@ -43,21 +43,7 @@ fn is_column(s: &[u8]) -> bool
 fn are_columns(s: &[u8]) -> bool
     ensures { result ≡ is_there ((list_of 2 (column_schema 2)).read s.now) }
 {
-    if !bytes_bundle::is_bundle(s, 2) {
-        return false;
-    }
-    let n = bytes_bundle::parts(s, 2);
-    let mut at = bytes_bundle::first(s, 2);
-    let mut i = 0;
-    while i < n {
-        let end = bytes_bundle::next(s, 2, i, at);
-        if !is_column(&s[at..end]) {
-            return false;
-        }
-        at = end;
-        i += 1;
-    }
-    true
+    bytes_bundle::is_bundle(s, 2) && bytes_bundle::iter(s, 2).all(is_column)
 }
 
 // Whether bytes are a list of ids.
@@ -105,21 +91,7 @@ fn is_table_shape(s: &[u8]) -> bool
 pub fn are_tables(s: &[u8]) -> bool
     ensures { result ≡ is_there ((list_of 2 table).read s.now) }
 {
-    if !bytes_bundle::is_bundle(s, 2) {
-        return false;
-    }
-    let n = bytes_bundle::parts(s, 2);
-    let mut at = bytes_bundle::first(s, 2);
-    let mut table = 0;
-    while table < n {
-        let end = bytes_bundle::next(s, 2, table, at);
-        if !is_table_shape(&s[at..end]) {
-            return false;
-        }
-        at = end;
-        table += 1;
-    }
-    true
+    bytes_bundle::is_bundle(s, 2) && bytes_bundle::iter(s, 2).all(is_table_shape)
 }
 
 // ---- a table's fields

@@ -20,41 +20,13 @@ use image_parts::names::{are_names, is_object_name};
 pub fn are_expressions(s: &[u8]) -> bool
     ensures { result ≡ is_there ((list_of 2 expression).read s.now) }
 {
-    if !bytes_bundle::is_bundle(s, 2) {
-        return false;
-    }
-    let n = bytes_bundle::parts(s, 2);
-    let mut i = 0;
-    let mut at = bytes_bundle::first(s, 2);
-    while i < n {
-        let end = bytes_bundle::next(s, 2, i, at);
-        if !image_expression::is_expression(&s[at..end]) {
-            return false;
-        }
-        i += 1;
-        at = end;
-    }
-    true
+    bytes_bundle::is_bundle(s, 2) && bytes_bundle::iter(s, 2).all(image_expression::is_expression)
 }
 
 pub fn are_rows(s: &[u8]) -> bool
     ensures { result ≡ is_there ((list_of 2 (list_of 2 expression)).read s.now) }
 {
-    if !bytes_bundle::is_bundle(s, 2) {
-        return false;
-    }
-    let n = bytes_bundle::parts(s, 2);
-    let mut row = 0;
-    let mut at = bytes_bundle::first(s, 2);
-    while row < n {
-        let end = bytes_bundle::next(s, 2, row, at);
-        if !are_expressions(&s[at..end]) {
-            return false;
-        }
-        row += 1;
-        at = end;
-    }
-    true
+    bytes_bundle::is_bundle(s, 2) && bytes_bundle::iter(s, 2).all(are_expressions)
 }
 
 // What follows the code of VALUES: a mark and the rows.

@@ -32,21 +32,7 @@ pub fn is_item(s: &[u8]) -> bool
 pub fn are_items(s: &[u8]) -> bool
     ensures { result ≡ is_there ((list_of 2 item).read s.now) }
 {
-    if !bytes_bundle::is_bundle(s, 2) {
-        return false;
-    }
-    let n = bytes_bundle::parts(s, 2);
-    let mut i = 0;
-    let mut at = bytes_bundle::first(s, 2);
-    while i < n {
-        let end = bytes_bundle::next(s, 2, i, at);
-        if !is_item(&s[at..end]) {
-            return false;
-        }
-        i += 1;
-        at = end;
-    }
-    true
+    bytes_bundle::is_bundle(s, 2) && bytes_bundle::iter(s, 2).all(is_item)
 }
 
 // Code 0: another number of tables than one, which are not held. Code 1: the table.

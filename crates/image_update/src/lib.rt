@@ -45,21 +45,7 @@ pub fn is_assignment(s: &[u8]) -> bool
 pub fn are_assignments(s: &[u8]) -> bool
     ensures { result ≡ is_there ((list_of 2 assignment).read s.now) }
 {
-    if !bytes_bundle::is_bundle(s, 2) {
-        return false;
-    }
-    let n = bytes_bundle::parts(s, 2);
-    let mut i = 0;
-    let mut at = bytes_bundle::first(s, 2);
-    while i < n {
-        let end = bytes_bundle::next(s, 2, i, at);
-        if !is_assignment(&s[at..end]) {
-            return false;
-        }
-        i += 1;
-        at = end;
-    }
-    true
+    bytes_bundle::is_bundle(s, 2) && bytes_bundle::iter(s, 2).all(is_assignment)
 }
 
 // A record of three marks, the table, the assignments, the condition.
