@@ -120,6 +120,20 @@ bare_or_case {s = s} {k = k} {c = c} m = m.is ∙ go s
     go (suc (suc n) ∷ s) =
         sym (rw (ne_eqb (suc (suc n)) 0 (omega arith), ne_eqb (suc (suc n)) 1 (omega arith), and-false (eqb (suc (length s)) 1)))
 
+-- three codes, the first two with nothing behind them
+pub bare_bare_or_case : {T : Type 0} {X : Bool} {s : List ℕ} {k l : Unit {0} → T} {c : Case T} → Chosen X s (case nothing k ∷ case nothing l ∷ c ∷ [])
+    → X ≡ ((eqb (length s) 1 && ltb (get_or s 0 0) 2) || (ltb 0 (length s) && (eqb (get_or s 0 0) 2 && is_there (c.form.read (drop 1 s)))))
+bare_bare_or_case {s = s} {k = k} {l = l} {c = c} m = m.is ∙ go s
+  where
+    go : (s : List ℕ) → (ltb 0 (length s) && case_is (case nothing k ∷ case nothing l ∷ c ∷ []) (get_or s 0 0) (drop 1 s))
+        ≡ ((eqb (length s) 1 && ltb (get_or s 0 0) 2) || (ltb 0 (length s) && (eqb (get_or s 0 0) 2 && is_there (c.form.read (drop 1 s)))))
+    go [] = refl
+    go (zero ∷ s) = rw (lt-ltb 0 (suc (length s)) (omega arith)) (nothing_is s ∙ sym (eqb-suc-suc (length s) 0) ∙ sym (or-false _ ∙ and-true _))
+    go (suc zero ∷ s) = rw (lt-ltb 0 (suc (length s)) (omega arith)) (nothing_is s ∙ sym (eqb-suc-suc (length s) 0) ∙ sym (or-false _ ∙ and-true _))
+    go (suc (suc zero) ∷ s) = sym (rw (and-false (eqb (suc (length s)) 1)))
+    go (suc (suc (suc n)) ∷ s) =
+        sym (rw (le-ltb (suc (suc (suc n))) 2 (omega arith), ne_eqb (suc (suc (suc n))) 2 (omega arith), and-false (eqb (suc (length s)) 1)))
+
 -- ---- marks alone
 
 abbrev pub is_mark : ℕ → Bool
