@@ -23,12 +23,12 @@ fn are_column_numbers(s: &[u8]) -> bool
 
 // Whether bytes are a column: its numbers and its name.
 #[tactic(auto, using(crate::specs::Shapes::is_column_lem, bytes_bundle::specs::Laws::is_record_lem))]
-fn is_column(s: &[u8]) -> bool
-    ensures { result ≡ is_there ((column_schema 2).read s.now) }
+fn is_column(c: &[u8]) -> bool
+    ensures { result ≡ is_there ((column_schema 2).read c.now) }
 {
-    bytes_bundle::is_record(s, 2, 2)
-        && are_column_numbers(bytes_bundle::part(s, 2, 0))
-        && bytes_utf8::is_utf8(bytes_bundle::part(s, 2, 1))
+    bytes_bundle::is_record(c, 2, 2)
+        && are_column_numbers(bytes_bundle::part(c, 2, 0))
+        && bytes_utf8::is_utf8(bytes_bundle::part(c, 2, 1))
 }
 
 // Whether bytes are a list of columns.
@@ -47,14 +47,14 @@ fn are_ids(s: &[u8]) -> bool
 
 // Whether bytes are a table, sound or not: its numbers (20 bytes), its name, its columns and its key.
 #[tactic(auto, using(crate::specs::Shapes::is_table_lem, bytes_bundle::specs::Laws::is_record_lem))]
-fn is_table_shape(s: &[u8]) -> bool
-    ensures { result ≡ is_there (table.read s.now) }
+fn is_table_shape(t: &[u8]) -> bool
+    ensures { result ≡ is_there (table.read t.now) }
 {
-    bytes_bundle::is_record(s, 2, 4)
-        && bytes_bundle::part(s, 2, 0).len() == 20
-        && bytes_utf8::is_utf8(bytes_bundle::part(s, 2, 1))
-        && are_columns(bytes_bundle::part(s, 2, 2))
-        && are_ids(bytes_bundle::part(s, 2, 3))
+    bytes_bundle::is_record(t, 2, 4)
+        && bytes_bundle::part(t, 2, 0).len() == 20
+        && bytes_utf8::is_utf8(bytes_bundle::part(t, 2, 1))
+        && are_columns(bytes_bundle::part(t, 2, 2))
+        && are_ids(bytes_bundle::part(t, 2, 3))
 }
 
 // Whether bytes are a list of tables, sound or not.
@@ -128,14 +128,11 @@ pub fn column_type(c: &[u8]) -> DataType
     ensures { (v : ColumnSchema) → Holds (column_schema 2) c.now v → result ≡ v.ty }
 {
     let numbers = bytes_bundle::part(c, 2, 0);
-    let code = numbers[8];
-    if code == 0 {
-        return DataType::Int;
+    match numbers[8] {
+        0 => DataType::Int,
+        1 => DataType::Text,
+        _ => DataType::Bool,
     }
-    if code == 1 {
-        return DataType::Text;
-    }
-    DataType::Bool
 }
 
 pub fn column_nullable(c: &[u8]) -> bool
