@@ -1,15 +1,17 @@
 -- What the tests of a function tell, shape by shape: a record's parts; a mark and something behind it, a code and its case, marks alone.
 -- Assumes nothing.
-use Rattle.std.specs.Prelude.{◌≡◌, refl, Bool, true, false, ◌&&◌, List, [], ◌∷◌, ℕ, zero, suc, ◌+◌, ◌≤◌, ◌<◌, length, drop, get_or, ltb, eqb}
-use Rattle.std.proofs.Common.{sym, ap, ◌∙◌, arith, add-one, drop_of_length-le, drop-cons, lt-ltb, le-ltb, eq-eqb, ne_eqb, eqb-true}
-use Rattle.std.proofs.Math.Bool.{and-true, and-false}
+use Rattle.std.specs.Prelude.{◌≡◌, refl, Bool, true, false, ◌&&◌, ◌||◌, List, [], ◌∷◌, ℕ, zero, suc, ◌+◌, ◌-◌, ◌≤◌, ◌<◌, length, take, drop, get_or, ltb, eqb}
+use Rattle.std.specs.List.{list_all}
+use Rattle.std.proofs.Common.{sym, ap, ◌∙◌, arith, add-one, drop_of_length-le, drop-cons, length-drop, lt-ltb, le-ltb, eq-eqb, ne_eqb, eqb-true}
+use Rattle.std.proofs.lemmas.List.{take_all}
+use Rattle.std.proofs.Math.Bool.{and-true, and-false, or-false}
 use Rattle.std.proofs.lemmas.Bool.{false≢true}
 use Rattle.std.proofs.Math.Option.{some}
 use Rattle.std.proofs.Math.Dec.{eqb-suc-suc}
 use Rattle.bytes_format.specs.Format.{Format, Fixed}
 use Rattle.bytes_format.specs.Ways.{next}
 use Rattle.bytes_format.proofs.Formats.{nothing, bools, mark, headed}
-use Rattle.bytes_format.proofs.Sums.{Case, Some, made, spread, sum, choice}
+use Rattle.bytes_format.proofs.Sums.{Case, case, Some, made, spread, sum, choice}
 use Rattle.bytes_bundle.specs.Bundle.{is_there}
 use Rattle.bytes_bundle.specs.Decides.{all_of, Decides}
 use Rattle.bytes_bundle.specs.Laws.{there_next, all}
@@ -37,6 +39,10 @@ pub told : (t : List ℕ → Bool) {r : Bool} {p q : List ℕ} → r ≡ t p →
 told t e h = e ∙ ap t h
 
 -- ---- what stands in front
+
+-- what a slice pattern calls the rest behind the first byte
+pub rest_lem : (s : List ℕ) → take (length s - 1) (drop 1 s) ≡ drop 1 s
+rest_lem s = take_all (length s - 1) (drop 1 s) (omega (arith, length-drop 1 s))
 
 abbrev pub mark_spot : Spot mark
 mark_spot = code_spot bools
@@ -101,10 +107,41 @@ module _ {T : Type 0} {X : Bool} {s : List ℕ} {l : List (Case T)} (m : Chosen 
   pub bad_code : length l ≤ get_or s 0 0 → false ≡ X
   bad_code h = sym (m.is ∙ rw (past_cases l (get_or s 0 0) (drop 1 s) h) (and-false (ltb 0 (length s))))
 
+-- two codes, the first with nothing behind it
+pub bare_or_case : {T : Type 0} {X : Bool} {s : List ℕ} {k : Unit {0} → T} {c : Case T} → Chosen X s (case nothing k ∷ c ∷ [])
+    → X ≡ ((eqb (length s) 1 && eqb (get_or s 0 0) 0) || (ltb 0 (length s) && (eqb (get_or s 0 0) 1 && is_there (c.form.read (drop 1 s)))))
+bare_or_case {s = s} {k = k} {c = c} m = m.is ∙ go s
+  where
+    go : (s : List ℕ) → (ltb 0 (length s) && case_is (case nothing k ∷ c ∷ []) (get_or s 0 0) (drop 1 s))
+        ≡ ((eqb (length s) 1 && eqb (get_or s 0 0) 0) || (ltb 0 (length s) && (eqb (get_or s 0 0) 1 && is_there (c.form.read (drop 1 s)))))
+    go [] = refl
+    go (zero ∷ s) = rw (lt-ltb 0 (suc (length s)) (omega arith)) (nothing_is s ∙ sym (eqb-suc-suc (length s) 0) ∙ sym (or-false _ ∙ and-true _))
+    go (suc zero ∷ s) = sym (rw (and-false (eqb (suc (length s)) 1)))
+    go (suc (suc n) ∷ s) =
+        sym (rw (ne_eqb (suc (suc n)) 0 (omega arith), ne_eqb (suc (suc n)) 1 (omega arith), and-false (eqb (suc (length s)) 1)))
+
+-- three codes, the first two with nothing behind them
+pub bare_bare_or_case : {T : Type 0} {X : Bool} {s : List ℕ} {k l : Unit {0} → T} {c : Case T} → Chosen X s (case nothing k ∷ case nothing l ∷ c ∷ [])
+    → X ≡ ((eqb (length s) 1 && ltb (get_or s 0 0) 2) || (ltb 0 (length s) && (eqb (get_or s 0 0) 2 && is_there (c.form.read (drop 1 s)))))
+bare_bare_or_case {s = s} {k = k} {l = l} {c = c} m = m.is ∙ go s
+  where
+    go : (s : List ℕ) → (ltb 0 (length s) && case_is (case nothing k ∷ case nothing l ∷ c ∷ []) (get_or s 0 0) (drop 1 s))
+        ≡ ((eqb (length s) 1 && ltb (get_or s 0 0) 2) || (ltb 0 (length s) && (eqb (get_or s 0 0) 2 && is_there (c.form.read (drop 1 s)))))
+    go [] = refl
+    go (zero ∷ s) = rw (lt-ltb 0 (suc (length s)) (omega arith)) (nothing_is s ∙ sym (eqb-suc-suc (length s) 0) ∙ sym (or-false _ ∙ and-true _))
+    go (suc zero ∷ s) = rw (lt-ltb 0 (suc (length s)) (omega arith)) (nothing_is s ∙ sym (eqb-suc-suc (length s) 0) ∙ sym (or-false _ ∙ and-true _))
+    go (suc (suc zero) ∷ s) = sym (rw (and-false (eqb (suc (length s)) 1)))
+    go (suc (suc (suc n)) ∷ s) =
+        sym (rw (le-ltb (suc (suc (suc n))) 2 (omega arith), ne_eqb (suc (suc (suc n))) 2 (omega arith), and-false (eqb (suc (length s)) 1)))
+
 -- ---- marks alone
 
 abbrev pub is_mark : ℕ → Bool
 is_mark b = ltb b 2
+
+all_same : (t : ℕ → Bool) (s : List ℕ) → list_all t s ≡ all t s
+all_same t [] = refl
+all_same t (b ∷ s) = ap (λ (c : Bool). t b && c) (all_same t s)
 
 -- n marks and nothing else
 unfoldable pub are_marks : ℕ → List ℕ → Bool
@@ -135,28 +172,10 @@ marks_are {f = f} {p = p} {n = n} m s = field_is p s ∙ rw m.width (go (eqb (le
     go true e = m.tests s 0 (omega (arith, eqb-true (length s) n e))
     go false e = refl
 
--- a loop over n marks: the bytes from i on are still to be looked at
-pub record MarksLeft (n : ℕ) (s : List ℕ) (i : ℕ) : Type 0 where
-  pub count : length s ≡ n
-  pub left : are_marks n s ≡ all is_mark (drop i s)
-
-pub marks_short : (n : ℕ) (s : List ℕ) → (length s ≡ n → ⊥) → false ≡ are_marks n s
+pub marks_short : (n : ℕ) (s : List ℕ) → (length s ≡ n → ⊥) → are_marks n s ≡ false
 unfolding are_marks
-marks_short n s h = sym (rw (ne_eqb (length s) n h))
+marks_short n s h = rw (ne_eqb (length s) n h)
 
-pub marks_start : (n : ℕ) (s : List ℕ) → length s ≡ n → MarksLeft n s 0
+pub marks_told : (n : ℕ) (s : List ℕ) {r : Bool} → length s ≡ n → r ≡ list_all is_mark s → r ≡ are_marks n s
 unfolding are_marks
-marks_start n s h = record { count = h; left = rw (eq-eqb (length s) n h) }
-
-module _ {n : ℕ} {s : List ℕ} {i : ℕ} (m : MarksLeft n s i) where
-  marks_turn : i < n → are_marks n s ≡ (is_mark (get_or s i 0) && all is_mark (drop (i + 1) s))
-  marks_turn h = m.left ∙ rw (drop-cons s i 0 (omega (arith, m.count)), add-one i)
-
-  pub marks_stop : i < n → 2 ≤ get_or s i 0 → false ≡ are_marks n s
-  marks_stop h k = sym (marks_turn h ∙ rw (le-ltb (get_or s i 0) 2 k))
-
-  pub marks_on : i < n → get_or s i 0 < 2 → MarksLeft n s (i + 1)
-  marks_on h k = record { count = m.count; left = marks_turn h ∙ rw (lt-ltb (get_or s i 0) 2 k) }
-
-  pub marks_end : n ≤ i → true ≡ are_marks n s
-  marks_end h = sym (m.left ∙ rw (drop_of_length-le s {i = i} (omega (arith, m.count))))
+marks_told n s h e = e ∙ all_same is_mark s ∙ sym (rw (eq-eqb (length s) n h))

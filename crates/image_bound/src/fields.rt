@@ -2,7 +2,6 @@
 ghost use Rattle.std.specs.Prelude.{◌≡◌, [], ◌∷◌, ◌++◌, ℕ, ◌+◌, ◌^◌, ◌≤◌, ◌<◌, length};
 ghost use Rattle.bytes_wire.specs.Le.{le};
 ghost use Rattle.bytes_wire.specs.Sets.{Wrote};
-ghost use Rattle.bytes_format.specs.Ways.{bool_index};
 ghost use Rattle.bytes_format.proofs.Formats.{mark};
 ghost use Rattle.image_value.specs.Parts.{column_id, data_type, data_type_no, expression_type};
 ghost use Rattle.rules.specs.Marking.{type_no};
@@ -39,17 +38,11 @@ pub fn put_byte(out: &mut [u8], at: usize, b: u8) -> usize
     at + 1
 }
 
-fn mark_code(yes: bool) -> u8
-    ensures { result ≡ bool_index yes }
-{
-    if yes { 1 } else { 0 }
-}
-
 pub fn put_mark(out: &mut [u8], at: usize, yes: bool) -> usize
     requires { at + 1 ≤ length out.old }
     ensures { Wrote out.old at (mark.form.write yes) result out.new }
 {
-    put_byte(out, at, mark_code(yes))
+    put_byte(out, at, u8::from(yes))
 }
 
 fn data_type_code(ty: DataType) -> u8

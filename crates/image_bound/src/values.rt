@@ -1,29 +1,17 @@
 // A value: its type code, and what follows it.
 ghost use Rattle.std.specs.Prelude.{◌≡◌, Bool, List, ℕ, ◌+◌, ◌≤◌, length, ℤ};
-ghost use Rattle.std.specs.Int.{w64};
-ghost use Rattle.std.proofs.Common.{of_z};
 ghost use Rattle.bytes_wire.specs.Sets.{Wrote};
 ghost use Rattle.image_value.specs.Parts.{value};
 ghost use Rattle.rules.specs.Bound.{Value.int, Value.text, Value.bool, Value.null};
 
 use crate::fields::{put_byte, put_mark};
 
-// Two's complement: a number below 0 by how far it lies from -1, and the largest u64 is -1.
-fn bits(z: i64) -> u64
-    ensures { result ≡ of_z w64 z }
-{
-    if z < 0 {
-        return 18446744073709551615 - (-1 - z) as u64;
-    }
-    z as u64
-}
-
 pub fn put_int(out: &mut [u8], at: usize, z: i64) -> usize
     requires { at + 9 ≤ length out.old }
     ensures { Wrote out.old at (value.write (int z)) result out.new }
 {
     let a = put_byte(out, at, 0);
-    bytes_wire::put(out, a, 8, bits(z))
+    bytes_wire::put(out, a, 8, z.cast_unsigned())
 }
 
 pub fn put_text(out: &mut [u8], at: usize, s: &[u8]) -> usize

@@ -1,6 +1,6 @@
 -- Whether bytes are a column, or a table: a test for each thing that the code looks at.
 -- Assumes nothing.
-use Rattle.std.specs.Prelude.{◌≡◌, refl, Bool, List, [], ◌∷◌, ℕ, length, get_or, ltb, eqb}
+use Rattle.std.specs.Prelude.{◌≡◌, refl, Bool, ◌&&◌, List, [], ◌∷◌, ℕ, length, get_or, ltb, eqb}
 use Rattle.std.proofs.Common.{◌∙◌}
 use Rattle.std.proofs.Math.Bool.{and-true}
 use Rattle.bytes_format.specs.Format.{Enum}
@@ -38,6 +38,11 @@ column_numbers_spot = both_spot column_id_spot (both_spot (code_spot data_types)
 pub column_numbers_decided : (s : List ℕ) → Decides (is_there ((alone column_numbers).read s)) (eqb (length s) 10 ∷ ltb (get_or s 8 0) 3 ∷ ltb (get_or s 9 0) 2 ∷ [])
 column_numbers_decided s = record { is = field_is column_numbers_spot s }
 
+pub are_column_numbers_lem : (s : List ℕ)
+    → is_there ((alone column_numbers).read s) ≡ (eqb (length s) 10 && (ltb (get_or s 8 0) 3 && ltb (get_or s 9 0) 2))
+are_column_numbers_lem s = (column_numbers_decided s).is
+
+
 abbrev pub column_parts : Places (alone column_numbers and text and end)
 column_parts = part (alone column_numbers) (part_as text is_utf8 text_is done)
 
@@ -46,6 +51,11 @@ pub column_decided : (s : List ℕ)
     (is_record 2 2 s ∷ is_there ((alone column_numbers).read (get_or (parts_of 2 s) 0 [])) ∷ is_utf8 (get_or (parts_of 2 s) 1 []) ∷ [])
 unfolding column_schema
 column_decided s = via_record_decided 2 column_parts s _
+
+pub is_column_lem : (s : List ℕ)
+    → is_there ((column_schema 2).read s) ≡ (is_record 2 2 s && (is_there ((alone column_numbers).read (get_or (parts_of 2 s) 0 [])) && is_utf8 (get_or (parts_of 2 s) 1 [])))
+is_column_lem s = (column_decided s).is
+
 
 -- ---- a table
 
@@ -74,3 +84,10 @@ table_tests s =
 pub table_decided : (s : List ℕ) → Decides (is_there (table.read s)) (table_tests s)
 unfolding table
 table_decided s = via_record_decided 2 table_parts s _
+
+pub is_table_lem : (s : List ℕ)
+    → is_there (table.read s)
+      ≡ (is_record 2 4 s && (eqb (length (get_or (parts_of 2 s) 0 [])) 20 && (is_utf8 (get_or (parts_of 2 s) 1 [])
+      && (is_there ((list_of 2 (column_schema 2)).read (get_or (parts_of 2 s) 2 [])) && is_there ((list_of 2 (alone column_id)).read (get_or (parts_of 2 s) 3 []))))))
+is_table_lem s = (table_decided s).is
+

@@ -14,112 +14,54 @@ ghost use Rattle.bytes_bundle.specs.Held.{Holds, Is};
 use rules::{ColumnId, DataType, TableId};
 
 // Whether bytes are a column's numbers: an id of 8 bytes, a type code and a mark.
+#[tactic(auto, using(crate::specs::Shapes::are_column_numbers_lem))]
 fn are_column_numbers(s: &[u8]) -> bool
     ensures { result ≡ is_there ((alone column_numbers).read s.now) }
 {
-    if s.len() != 10 {
-        return false;
-    }
-    if s[8] >= 3 {
-        return false;
-    }
-    s[9] < 2
+    s.len() == 10 && s[8] < 3 && s[9] < 2
 }
 
 // Whether bytes are a column: its numbers and its name.
-fn is_column(s: &[u8]) -> bool
-    ensures { result ≡ is_there ((column_schema 2).read s.now) }
+#[tactic(auto, using(crate::specs::Shapes::is_column_lem, bytes_bundle::specs::Laws::is_record_lem))]
+fn is_column(c: &[u8]) -> bool
+    ensures { result ≡ is_there ((column_schema 2).read c.now) }
 {
-    if !bytes_bundle::is_record(s, 2, 2) {
-        return false;
-    }
-    if !are_column_numbers(bytes_bundle::part(s, 2, 0)) {
-        return false;
-    }
-    bytes_utf8::is_utf8(bytes_bundle::part(s, 2, 1))
+    bytes_bundle::is_record(c, 2, 2)
+        && are_column_numbers(bytes_bundle::part(c, 2, 0))
+        && bytes_utf8::is_utf8(bytes_bundle::part(c, 2, 1))
 }
 
 // Whether bytes are a list of columns.
 fn are_columns(s: &[u8]) -> bool
     ensures { result ≡ is_there ((list_of 2 (column_schema 2)).read s.now) }
 {
-    if !bytes_bundle::is_bundle(s, 2) {
-        return false;
-    }
-    let n = bytes_bundle::parts(s, 2);
-    let mut at = bytes_bundle::first(s, 2);
-    let mut i = 0;
-    while i < n {
-        let end = bytes_bundle::next(s, 2, i, at);
-        if !is_column(&s[at..end]) {
-            return false;
-        }
-        at = end;
-        i += 1;
-    }
-    true
+    bytes_bundle::is_bundle(s, 2) && bytes_bundle::iter(s, 2).all(is_column)
 }
 
 // Whether bytes are a list of ids.
 fn are_ids(s: &[u8]) -> bool
     ensures { result ≡ is_there ((list_of 2 (alone column_id)).read s.now) }
 {
-    if !bytes_bundle::is_bundle(s, 2) {
-        return false;
-    }
-    let n = bytes_bundle::parts(s, 2);
-    let mut at = bytes_bundle::first(s, 2);
-    let mut i = 0;
-    while i < n {
-        let end = bytes_bundle::next(s, 2, i, at);
-        if end - at != 8 {
-            return false;
-        }
-        at = end;
-        i += 1;
-    }
-    true
+    bytes_bundle::is_bundle(s, 2) && bytes_bundle::iter(s, 2).all(|id| id.len() == 8)
 }
 
 // Whether bytes are a table, sound or not: its numbers (20 bytes), its name, its columns and its key.
-fn is_table_shape(s: &[u8]) -> bool
-    ensures { result ≡ is_there (table.read s.now) }
+#[tactic(auto, using(crate::specs::Shapes::is_table_lem, bytes_bundle::specs::Laws::is_record_lem))]
+fn is_table_shape(t: &[u8]) -> bool
+    ensures { result ≡ is_there (table.read t.now) }
 {
-    if !bytes_bundle::is_record(s, 2, 4) {
-        return false;
-    }
-    let numbers = bytes_bundle::part(s, 2, 0);
-    if numbers.len() != 20 {
-        return false;
-    }
-    if !bytes_utf8::is_utf8(bytes_bundle::part(s, 2, 1)) {
-        return false;
-    }
-    if !are_columns(bytes_bundle::part(s, 2, 2)) {
-        return false;
-    }
-    are_ids(bytes_bundle::part(s, 2, 3))
+    bytes_bundle::is_record(t, 2, 4)
+        && bytes_bundle::part(t, 2, 0).len() == 20
+        && bytes_utf8::is_utf8(bytes_bundle::part(t, 2, 1))
+        && are_columns(bytes_bundle::part(t, 2, 2))
+        && are_ids(bytes_bundle::part(t, 2, 3))
 }
 
 // Whether bytes are a list of tables, sound or not.
 pub fn are_tables(s: &[u8]) -> bool
     ensures { result ≡ is_there ((list_of 2 table).read s.now) }
 {
-    if !bytes_bundle::is_bundle(s, 2) {
-        return false;
-    }
-    let n = bytes_bundle::parts(s, 2);
-    let mut at = bytes_bundle::first(s, 2);
-    let mut table = 0;
-    while table < n {
-        let end = bytes_bundle::next(s, 2, table, at);
-        if !is_table_shape(&s[at..end]) {
-            return false;
-        }
-        at = end;
-        table += 1;
-    }
-    true
+    bytes_bundle::is_bundle(s, 2) && bytes_bundle::iter(s, 2).all(is_table_shape)
 }
 
 // ---- a table's fields
@@ -186,14 +128,11 @@ pub fn column_type(c: &[u8]) -> DataType
     ensures { (v : ColumnSchema) → Holds (column_schema 2) c.now v → result ≡ v.ty }
 {
     let numbers = bytes_bundle::part(c, 2, 0);
-    let code = numbers[8];
-    if code == 0 {
-        return DataType::Int;
+    match numbers[8] {
+        0 => DataType::Int,
+        1 => DataType::Text,
+        _ => DataType::Bool,
     }
-    if code == 1 {
-        return DataType::Text;
-    }
-    DataType::Bool
 }
 
 pub fn column_nullable(c: &[u8]) -> bool

@@ -13,111 +13,61 @@ use image_parts::heads::{are_marks, behind};
 use image_parts::names;
 
 // A mark and a kind.
+#[tactic(auto, using(crate::specs::Shapes::is_option_lem))]
 pub fn is_option(s: &[u8]) -> bool
     ensures { result ≡ is_there (option.read s.now) }
 {
-    if s.len() != 2 {
-        return false;
-    }
-    if s[0] >= 2 {
-        return false;
-    }
-    s[1] < 5
+    matches!(s, [named, kind] if *named < 2 && *kind < 5)
 }
 
 pub fn are_options(s: &[u8]) -> bool
     ensures { result ≡ is_there ((list_of 2 option).read s.now) }
 {
-    if !bytes_bundle::is_bundle(s, 2) {
-        return false;
-    }
-    let n = bytes_bundle::parts(s, 2);
-    let mut i = 0;
-    let mut at = bytes_bundle::first(s, 2);
-    while i < n {
-        let end = bytes_bundle::next(s, 2, i, at);
-        if !is_option(&s[at..end]) {
-            return false;
-        }
-        i += 1;
-        at = end;
-    }
-    true
+    bytes_bundle::is_bundle(s, 2) && bytes_bundle::iter(s, 2).all(is_option)
 }
 
 // One code.
+#[tactic(auto, using(crate::specs::Shapes::is_type_lem))]
 fn is_type(s: &[u8]) -> bool
     ensures { result ≡ is_there ((alone column_type).read s.now) }
 {
-    if s.len() != 1 {
-        return false;
-    }
-    s[0] < 4
+    matches!(s, [code] if *code < 4)
 }
 
 // A mark, a name, options and a type.
+#[tactic(auto, using(crate::specs::Shapes::is_column_definition_lem, bytes_bundle::specs::Laws::is_record_lem))]
 pub fn is_column_definition(s: &[u8]) -> bool
     ensures { result ≡ is_there (column_definition.read s.now) }
 {
-    if !bytes_bundle::is_record(s, 2, 4) {
-        return false;
-    }
-    if !are_marks(bytes_bundle::part(s, 2, 0), 1) {
-        return false;
-    }
-    if !names::is_name(bytes_bundle::part(s, 2, 1)) {
-        return false;
-    }
-    if !are_options(bytes_bundle::part(s, 2, 2)) {
-        return false;
-    }
-    is_type(bytes_bundle::part(s, 2, 3))
+    bytes_bundle::is_record(s, 2, 4)
+        && are_marks(bytes_bundle::part(s, 2, 0), 1)
+        && names::is_name(bytes_bundle::part(s, 2, 1))
+        && are_options(bytes_bundle::part(s, 2, 2))
+        && is_type(bytes_bundle::part(s, 2, 3))
 }
 
 pub fn are_column_definitions(s: &[u8]) -> bool
     ensures { result ≡ is_there ((list_of 2 column_definition).read s.now) }
 {
-    if !bytes_bundle::is_bundle(s, 2) {
-        return false;
-    }
-    let n = bytes_bundle::parts(s, 2);
-    let mut column = 0;
-    let mut at = bytes_bundle::first(s, 2);
-    while column < n {
-        let end = bytes_bundle::next(s, 2, column, at);
-        if !is_column_definition(&s[at..end]) {
-            return false;
-        }
-        column += 1;
-        at = end;
-    }
-    true
+    bytes_bundle::is_bundle(s, 2) && bytes_bundle::iter(s, 2).all(is_column_definition)
 }
 
 // What follows the code of a primary key: a mark and the key's names.
+#[tactic(auto, using(crate::specs::Shapes::is_key_lem, bytes_bundle::specs::Heads::rest_lem))]
 fn is_key(s: &[u8]) -> bool
     ensures { result ≡ is_there ((headed mark (λ m. list_of 2 name)).read s.now) }
 {
-    if s.len() == 0 {
-        return false;
-    }
-    let mark = s[0];
-    if mark >= 2 {
-        return false;
-    }
-    names::are_names(behind(s))
+    matches!(s, [mark, names @ ..] if *mark < 2 && names::are_names(names))
 }
 
 // Code 0: no primary key, and nothing of it is held. Code 1: a primary key.
+#[tactic(auto, using(crate::specs::Shapes::is_constraint_lem, bytes_bundle::specs::Heads::rest_lem))]
 pub fn is_constraint(s: &[u8]) -> bool
     ensures { result ≡ is_there (constraint.read s.now) }
 {
-    if s.len() == 0 {
-        return false;
-    }
-    match s[0] {
-        0 => s.len() == 1,
-        1 => is_key(behind(s)),
+    match s {
+        [0] => true,
+        [1, key @ ..] => is_key(key),
         _ => false,
     }
 }
@@ -125,40 +75,19 @@ pub fn is_constraint(s: &[u8]) -> bool
 pub fn are_constraints(s: &[u8]) -> bool
     ensures { result ≡ is_there ((list_of 2 constraint).read s.now) }
 {
-    if !bytes_bundle::is_bundle(s, 2) {
-        return false;
-    }
-    let n = bytes_bundle::parts(s, 2);
-    let mut i = 0;
-    let mut at = bytes_bundle::first(s, 2);
-    while i < n {
-        let end = bytes_bundle::next(s, 2, i, at);
-        if !is_constraint(&s[at..end]) {
-            return false;
-        }
-        i += 1;
-        at = end;
-    }
-    true
+    bytes_bundle::is_bundle(s, 2) && bytes_bundle::iter(s, 2).all(is_constraint)
 }
 
 // Three marks, a name, columns and constraints.
+#[tactic(auto, using(crate::specs::Shapes::is_create_lem, bytes_bundle::specs::Laws::is_record_lem))]
 pub fn is_create(s: &[u8]) -> bool
     ensures { result ≡ is_there (create.read s.now) }
 {
-    if !bytes_bundle::is_record(s, 2, 4) {
-        return false;
-    }
-    if !are_marks(bytes_bundle::part(s, 2, 0), 3) {
-        return false;
-    }
-    if !names::is_object_name(bytes_bundle::part(s, 2, 1)) {
-        return false;
-    }
-    if !are_column_definitions(bytes_bundle::part(s, 2, 2)) {
-        return false;
-    }
-    are_constraints(bytes_bundle::part(s, 2, 3))
+    bytes_bundle::is_record(s, 2, 4)
+        && are_marks(bytes_bundle::part(s, 2, 0), 3)
+        && names::is_object_name(bytes_bundle::part(s, 2, 1))
+        && are_column_definitions(bytes_bundle::part(s, 2, 2))
+        && are_constraints(bytes_bundle::part(s, 2, 3))
 }
 
 // ---- what a CREATE TABLE holds

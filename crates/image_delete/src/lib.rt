@@ -13,34 +13,26 @@ use image_parts::heads::{are_marks, behind, mark_in};
 use image_parts::table::is_table;
 
 // Code 0: without the keyword FROM. Code 1: another number of tables than one. Neither holds anything. Code 2: the table.
+#[tactic(auto, using(crate::specs::Shapes::is_delete_from_lem, bytes_bundle::specs::Heads::rest_lem))]
 pub fn is_delete_from(s: &[u8]) -> bool
     ensures { result ≡ is_there (delete_from.read s.now) }
 {
-    if s.len() == 0 {
-        return false;
-    }
-    match s[0] {
-        0 => s.len() == 1,
-        1 => s.len() == 1,
-        2 => is_table(behind(s)),
+    match s {
+        [0 | 1] => true,
+        [2, table @ ..] => is_table(table),
         _ => false,
     }
 }
 
 // A record of five marks, the FROM, the condition.
+#[tactic(auto, using(crate::specs::Shapes::is_delete_lem, bytes_bundle::specs::Laws::is_record_lem))]
 pub fn is_delete(s: &[u8]) -> bool
     ensures { result ≡ is_there (deletion.read s.now) }
 {
-    if !bytes_bundle::is_record(s, 2, 3) {
-        return false;
-    }
-    if !are_marks(bytes_bundle::part(s, 2, 0), 5) {
-        return false;
-    }
-    if !is_delete_from(bytes_bundle::part(s, 2, 1)) {
-        return false;
-    }
-    is_condition(bytes_bundle::part(s, 2, 2))
+    bytes_bundle::is_record(s, 2, 3)
+        && are_marks(bytes_bundle::part(s, 2, 0), 5)
+        && is_delete_from(bytes_bundle::part(s, 2, 1))
+        && is_condition(bytes_bundle::part(s, 2, 2))
 }
 
 // ---- what a DELETE holds

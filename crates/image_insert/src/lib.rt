@@ -20,110 +20,61 @@ use image_parts::names::{are_names, is_object_name};
 pub fn are_expressions(s: &[u8]) -> bool
     ensures { result ≡ is_there ((list_of 2 expression).read s.now) }
 {
-    if !bytes_bundle::is_bundle(s, 2) {
-        return false;
-    }
-    let n = bytes_bundle::parts(s, 2);
-    let mut i = 0;
-    let mut at = bytes_bundle::first(s, 2);
-    while i < n {
-        let end = bytes_bundle::next(s, 2, i, at);
-        if !image_expression::is_expression(&s[at..end]) {
-            return false;
-        }
-        i += 1;
-        at = end;
-    }
-    true
+    bytes_bundle::is_bundle(s, 2) && bytes_bundle::iter(s, 2).all(image_expression::is_expression)
 }
 
 pub fn are_rows(s: &[u8]) -> bool
     ensures { result ≡ is_there ((list_of 2 (list_of 2 expression)).read s.now) }
 {
-    if !bytes_bundle::is_bundle(s, 2) {
-        return false;
-    }
-    let n = bytes_bundle::parts(s, 2);
-    let mut row = 0;
-    let mut at = bytes_bundle::first(s, 2);
-    while row < n {
-        let end = bytes_bundle::next(s, 2, row, at);
-        if !are_expressions(&s[at..end]) {
-            return false;
-        }
-        row += 1;
-        at = end;
-    }
-    true
+    bytes_bundle::is_bundle(s, 2) && bytes_bundle::iter(s, 2).all(are_expressions)
 }
 
 // What follows the code of VALUES: a mark and the rows.
+#[tactic(auto, using(crate::specs::Shapes::are_values_lem, bytes_bundle::specs::Heads::rest_lem))]
 fn are_values(v: &[u8]) -> bool
     ensures { result ≡ is_there (values_form.read v.now) }
 {
-    if v.len() == 0 {
-        return false;
-    }
-    if v[0] >= 2 {
-        return false;
-    }
-    are_rows(behind(v))
+    matches!(v, [mark, rows @ ..] if *mark < 2 && are_rows(rows))
 }
 
 // Code 0: no VALUES, and nothing of it is held. Code 1: VALUES.
+#[tactic(auto, using(crate::specs::Shapes::is_source_body_lem, bytes_bundle::specs::Heads::rest_lem))]
 pub fn is_source_body(s: &[u8]) -> bool
     ensures { result ≡ is_there (source_body.read s.now) }
 {
-    if s.len() == 0 {
-        return false;
-    }
-    match s[0] {
-        0 => s.len() == 1,
-        1 => are_values(behind(s)),
+    match s {
+        [0] => true,
+        [1, values @ ..] => are_values(values),
         _ => false,
     }
 }
 
 // A mark and a body.
+#[tactic(auto, using(crate::specs::Shapes::is_source_lem, bytes_bundle::specs::Heads::rest_lem))]
 pub fn is_source(s: &[u8]) -> bool
     ensures { result ≡ is_there (source.read s.now) }
 {
-    if s.len() == 0 {
-        return false;
-    }
-    if s[0] >= 2 {
-        return false;
-    }
-    is_source_body(behind(s))
+    matches!(s, [mark, body @ ..] if *mark < 2 && is_source_body(body))
 }
 
 // No byte at all where there is no source; a source has two bytes at least.
+#[tactic(auto, using(crate::specs::Shapes::no_source, crate::specs::Shapes::some_source))]
 fn is_maybe_source(s: &[u8]) -> bool
     ensures { result ≡ is_there (optional_read source s.now) }
 {
-    if s.len() == 0 {
-        return true;
-    }
-    is_source(s)
+    s.is_empty() || is_source(s)
 }
 
 // A mark, a name, the columns and the source.
+#[tactic(auto, using(crate::specs::Shapes::is_insert_lem, bytes_bundle::specs::Laws::is_record_lem))]
 pub fn is_insert(s: &[u8]) -> bool
     ensures { result ≡ is_there (insertion.read s.now) }
 {
-    if !bytes_bundle::is_record(s, 2, 4) {
-        return false;
-    }
-    if !are_marks(bytes_bundle::part(s, 2, 0), 1) {
-        return false;
-    }
-    if !is_object_name(bytes_bundle::part(s, 2, 1)) {
-        return false;
-    }
-    if !are_names(bytes_bundle::part(s, 2, 2)) {
-        return false;
-    }
-    is_maybe_source(bytes_bundle::part(s, 2, 3))
+    bytes_bundle::is_record(s, 2, 4)
+        && are_marks(bytes_bundle::part(s, 2, 0), 1)
+        && is_object_name(bytes_bundle::part(s, 2, 1))
+        && are_names(bytes_bundle::part(s, 2, 2))
+        && is_maybe_source(bytes_bundle::part(s, 2, 3))
 }
 
 // ---- what an INSERT holds

@@ -1,6 +1,6 @@
 -- Whether bytes are a name, a table or a condition: for each format, the tests that the code makes one behind the other.
 -- Assumes nothing.
-use Rattle.std.specs.Prelude.{◌≡◌, refl, Bool, true, List, [], ◌∷◌, ℕ, length, drop}
+use Rattle.std.specs.Prelude.{◌≡◌, refl, Bool, true, ◌&&◌, ◌||◌, List, [], ◌∷◌, ℕ, length, drop, get_or, ltb, eqb}
 use Rattle.std.proofs.Common.{sym, ◌∙◌, arith}
 use Rattle.bytes_format.specs.Format.{Format}
 use Rattle.bytes_format.proofs.Formats.{text, mark, headed}
@@ -9,7 +9,7 @@ use Rattle.rules.specs.Statements.{ObjectName}
 use Rattle.image_expression.specs.Expression.{expression, expression_not_empty}
 use Rattle.bytes_bundle.specs.Bundle.{is_there}
 use Rattle.bytes_bundle.specs.Fields.{text_is, optional_some}
-use Rattle.bytes_bundle.specs.Heads.{Marked, via_marked, headed_marked, Chosen, sum_chosen}
+use Rattle.bytes_bundle.specs.Heads.{Marked, via_marked, headed_marked, Chosen, sum_chosen, bare_or_case}
 use Rattle.image_parts.specs.Layout.{
   name,
   object_name_cases,
@@ -34,6 +34,15 @@ pub object_name_chosen : (s : List ℕ) → Chosen (is_there (object_name.read s
 unfolding object_name
 object_name_chosen s = sum_chosen object_name_cases which_object_name object_name_made refl refl s
 
+-- whether bytes are a name, and an object's name
+pub is_name_lem : (s : List ℕ) → is_there (name.read s) ≡ (ltb 0 (length s) && (ltb (get_or s 0 0) 2 && is_utf8 (drop 1 s)))
+is_name_lem s = (name_marked s).is
+
+pub is_object_name_lem : (s : List ℕ)
+    → is_there (object_name.read s)
+      ≡ ((eqb (length s) 1 && eqb (get_or s 0 0) 0) || (ltb 0 (length s) && (eqb (get_or s 0 0) 1 && is_there (name.read (drop 1 s)))))
+is_object_name_lem s = bare_or_case (object_name_chosen s)
+
 -- ---- one table
 
 -- what a relation of code 1 has behind the code
@@ -51,6 +60,19 @@ relation_chosen s = sum_chosen relation_cases which_relation relation_made refl 
 pub table_marked : (s : List ℕ) → Marked (is_there (table_with_joins.read s)) s (is_there (relation.read (drop 1 s)))
 unfolding table_with_joins
 table_marked s = via_marked relation _ s
+
+-- whether bytes are the one table, and the parts of it
+pub is_direct_lem : (s : List ℕ) → is_there (direct_form.read s) ≡ (ltb 0 (length s) && (ltb (get_or s 0 0) 2 && is_there (object_name.read (drop 1 s))))
+is_direct_lem s = (direct_marked s).is
+
+pub is_relation_lem : (s : List ℕ)
+    → is_there (relation.read s)
+      ≡ ((eqb (length s) 1 && eqb (get_or s 0 0) 0) || (ltb 0 (length s) && (eqb (get_or s 0 0) 1 && is_there (direct_form.read (drop 1 s)))))
+unfolding direct_form
+is_relation_lem s = bare_or_case (relation_chosen s)
+
+pub is_table_lem : (s : List ℕ) → is_there (table_with_joins.read s) ≡ (ltb 0 (length s) && (ltb (get_or s 0 0) 2 && is_there (relation.read (drop 1 s))))
+is_table_lem s = (table_marked s).is
 
 -- ---- a condition
 

@@ -10,15 +10,13 @@ ghost use Rattle.image_parts.specs.Layout.{condition};
 pub fn is_condition(s: &[u8]) -> bool
     ensures { result ≡ is_there (condition.read s.now) }
 {
-    if s.len() == 0 {
-        return true;
-    }
-    image_expression::is_expression(s)
+    s.is_empty() || image_expression::is_expression(s)
 }
 
 // Whether there is a condition. Where there is one, its bytes are the expression's (`condition_holds`).
+#[tactic(auto, using(crate::specs::NamesHeld::condition_present))]
 pub fn has_condition(c: &[u8]) -> bool
     ensures { (v : Option Expr) → Holds condition c.now v → result ≡ is_there v }
 {
-    c.len() != 0
+    !c.is_empty()
 }

@@ -12,20 +12,11 @@ pub fn behind(s: &[u8]) -> &[u8]
 }
 
 // Whether bytes are n marks and nothing else.
+#[tactic(auto, using(bytes_bundle::specs::Heads::marks_short))]
 pub fn are_marks(s: &[u8], n: usize) -> bool
     ensures { result ≡ are_marks n s.now }
 {
-    if s.len() != n {
-        return false;
-    }
-    let mut i = 0;
-    while i < n {
-        if s[i] >= 2 {
-            return false;
-        }
-        i += 1;
-    }
-    true
+    s.len() == n && s.iter().all(|mark| *mark < 2)
 }
 
 // Mark k of the marks that are a record's first part.

@@ -10,28 +10,21 @@ ghost use Rattle.image_parts.specs.NamesHeld.{object_name_no};
 use crate::heads::behind;
 
 // A mark, whether the name is quoted, and the name's text.
+#[tactic(auto, using(crate::specs::Shapes::is_name_lem, bytes_bundle::specs::Heads::rest_lem))]
 pub fn is_name(s: &[u8]) -> bool
     ensures { result ≡ is_there (name.read s.now) }
 {
-    if s.len() == 0 {
-        return false;
-    }
-    if s[0] >= 2 {
-        return false;
-    }
-    bytes_utf8::is_utf8(behind(s))
+    matches!(s, [mark, text @ ..] if *mark < 2 && bytes_utf8::is_utf8(text))
 }
 
 // Code 0: several parts, which are not held. Code 1: a name.
+#[tactic(auto, using(crate::specs::Shapes::is_object_name_lem, bytes_bundle::specs::Heads::rest_lem))]
 pub fn is_object_name(s: &[u8]) -> bool
     ensures { result ≡ is_there (object_name.read s.now) }
 {
-    if s.len() == 0 {
-        return false;
-    }
-    match s[0] {
-        0 => s.len() == 1,
-        1 => is_name(behind(s)),
+    match s {
+        [0] => true,
+        [1, name @ ..] => is_name(name),
         _ => false,
     }
 }

@@ -11,43 +11,31 @@ use crate::heads::behind;
 use crate::names::is_object_name;
 
 // What code 1 of a relation has behind it: a mark and an object name.
+#[tactic(auto, using(crate::specs::Shapes::is_direct_lem, bytes_bundle::specs::Heads::rest_lem))]
 fn is_direct(s: &[u8]) -> bool
     ensures { result ≡ is_there (direct_form.read s.now) }
 {
-    if s.len() == 0 {
-        return false;
-    }
-    if s[0] >= 2 {
-        return false;
-    }
-    is_object_name(behind(s))
+    matches!(s, [mark, name @ ..] if *mark < 2 && is_object_name(name))
 }
 
 // Code 0: no table of its own, nothing is held. Code 1: a mark and an object name.
+#[tactic(auto, using(crate::specs::Shapes::is_relation_lem, bytes_bundle::specs::Heads::rest_lem))]
 pub fn is_relation(s: &[u8]) -> bool
     ensures { result ≡ is_there (relation.read s.now) }
 {
-    if s.len() == 0 {
-        return false;
-    }
-    match s[0] {
-        0 => s.len() == 1,
-        1 => is_direct(behind(s)),
+    match s {
+        [0] => true,
+        [1, direct @ ..] => is_direct(direct),
         _ => false,
     }
 }
 
 // A mark and a relation.
+#[tactic(auto, using(crate::specs::Shapes::is_table_lem, bytes_bundle::specs::Heads::rest_lem))]
 pub fn is_table(s: &[u8]) -> bool
     ensures { result ≡ is_there (table_with_joins.read s.now) }
 {
-    if s.len() == 0 {
-        return false;
-    }
-    if s[0] >= 2 {
-        return false;
-    }
-    is_relation(behind(s))
+    matches!(s, [mark, relation @ ..] if *mark < 2 && is_relation(relation))
 }
 
 // ---- what a table holds

@@ -19,24 +19,11 @@ use crate::columns::values_obey;
 use rules::Ordinal;
 
 // Whether bytes are a row, of whatever table.
+#[tactic(auto, unfolding(crate::specs::Layout::row))]
 pub fn is_row(s: &[u8]) -> bool
     ensures { result ≡ is_there (row.read s.now) }
 {
-    if !bytes_bundle::is_bundle(s, 4) {
-        return false;
-    }
-    let n = bytes_bundle::parts(s, 4);
-    let mut at = bytes_bundle::first(s, 4);
-    let mut i = 0;
-    while i < n {
-        let end = bytes_bundle::next(s, 4, i, at);
-        if !image_value::is_value(&s[at..end]) {
-            return false;
-        }
-        at = end;
-        i += 1;
-    }
-    true
+    bytes_bundle::is_bundle(s, 4) && bytes_bundle::iter(s, 4).all(image_value::is_value)
 }
 
 // Whether bytes are a row that obeys a table.

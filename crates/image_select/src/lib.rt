@@ -15,16 +15,13 @@ use image_parts::names::is_name;
 use image_parts::table::is_table;
 
 // Code 0: any other item. Code 1: `*`. Code 2: a column's name.
+#[tactic(auto, using(crate::specs::Shapes::is_item_lem, bytes_bundle::specs::Heads::rest_lem))]
 pub fn is_item(s: &[u8]) -> bool
     ensures { result ≡ is_there (item.read s.now) }
 {
-    if s.len() == 0 {
-        return false;
-    }
-    match s[0] {
-        0 => s.len() == 1,
-        1 => s.len() == 1,
-        2 => is_name(behind(s)),
+    match s {
+        [0 | 1] => true,
+        [2, name @ ..] => is_name(name),
         _ => false,
     }
 }
@@ -32,81 +29,51 @@ pub fn is_item(s: &[u8]) -> bool
 pub fn are_items(s: &[u8]) -> bool
     ensures { result ≡ is_there ((list_of 2 item).read s.now) }
 {
-    if !bytes_bundle::is_bundle(s, 2) {
-        return false;
-    }
-    let n = bytes_bundle::parts(s, 2);
-    let mut i = 0;
-    let mut at = bytes_bundle::first(s, 2);
-    while i < n {
-        let end = bytes_bundle::next(s, 2, i, at);
-        if !is_item(&s[at..end]) {
-            return false;
-        }
-        i += 1;
-        at = end;
-    }
-    true
+    bytes_bundle::is_bundle(s, 2) && bytes_bundle::iter(s, 2).all(is_item)
 }
 
 // Code 0: another number of tables than one, which are not held. Code 1: the table.
+#[tactic(auto, using(crate::specs::Shapes::is_select_from_lem, bytes_bundle::specs::Heads::rest_lem))]
 pub fn is_select_from(s: &[u8]) -> bool
     ensures { result ≡ is_there (select_from.read s.now) }
 {
-    if s.len() == 0 {
-        return false;
-    }
-    match s[0] {
-        0 => s.len() == 1,
-        1 => is_table(behind(s)),
+    match s {
+        [0] => true,
+        [1, table @ ..] => is_table(table),
         _ => false,
     }
 }
 
 // A record of a mark, the FROM, the items, the condition.
+#[tactic(auto, using(crate::specs::Shapes::is_select_lem, bytes_bundle::specs::Laws::is_record_lem))]
 pub fn is_select(s: &[u8]) -> bool
     ensures { result ≡ is_there (select.read s.now) }
 {
-    if !bytes_bundle::is_record(s, 2, 4) {
-        return false;
-    }
-    if !are_marks(bytes_bundle::part(s, 2, 0), 1) {
-        return false;
-    }
-    if !is_select_from(bytes_bundle::part(s, 2, 1)) {
-        return false;
-    }
-    if !are_items(bytes_bundle::part(s, 2, 2)) {
-        return false;
-    }
-    is_condition(bytes_bundle::part(s, 2, 3))
+    bytes_bundle::is_record(s, 2, 4)
+        && are_marks(bytes_bundle::part(s, 2, 0), 1)
+        && is_select_from(bytes_bundle::part(s, 2, 1))
+        && are_items(bytes_bundle::part(s, 2, 2))
+        && is_condition(bytes_bundle::part(s, 2, 3))
 }
 
 // Code 0: no plain SELECT, nothing is held. Code 1: the SELECT.
+#[tactic(auto, using(crate::specs::Shapes::is_query_body_lem, bytes_bundle::specs::Heads::rest_lem))]
 pub fn is_query_body(s: &[u8]) -> bool
     ensures { result ≡ is_there (query_body.read s.now) }
 {
-    if s.len() == 0 {
-        return false;
-    }
-    match s[0] {
-        0 => s.len() == 1,
-        1 => is_select(behind(s)),
+    match s {
+        [0] => true,
+        [1, select @ ..] => is_select(select),
         _ => false,
     }
 }
 
 // A mark and the body.
+#[tactic(auto, using(crate::specs::Shapes::is_query_lem, bytes_bundle::specs::Heads::rest_lem))]
 pub fn is_query(s: &[u8]) -> bool
     ensures { result ≡ is_there (selection.read s.now) }
 {
-    if s.len() == 0 {
-        return false;
-    }
-    if s[0] >= 2 {
-        return false;
-    }
-    is_query_body(behind(s))
+    matches!(s, [mark, body @ ..] if *mark < 2 && is_query_body(body))
 }
 
 // ---- what a query holds

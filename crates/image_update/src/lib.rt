@@ -16,69 +16,43 @@ use image_parts::names::is_object_name;
 use image_parts::table::is_table;
 
 // Code 0: a tuple, which is not held. Code 1: an object name.
+#[tactic(auto, using(crate::specs::Shapes::is_target_lem, bytes_bundle::specs::Heads::rest_lem))]
 pub fn is_target(s: &[u8]) -> bool
     ensures { result ≡ is_there (assignment_target.read s.now) }
 {
-    if s.len() == 0 {
-        return false;
-    }
-    match s[0] {
-        0 => s.len() == 1,
-        1 => is_object_name(behind(s)),
+    match s {
+        [0] => true,
+        [1, name @ ..] => is_object_name(name),
         _ => false,
     }
 }
 
 // A record of the target and the value.
+#[tactic(auto, using(crate::specs::Shapes::is_assignment_lem, bytes_bundle::specs::Laws::is_record_lem))]
 pub fn is_assignment(s: &[u8]) -> bool
     ensures { result ≡ is_there (assignment.read s.now) }
 {
-    if !bytes_bundle::is_record(s, 2, 2) {
-        return false;
-    }
-    if !is_target(bytes_bundle::part(s, 2, 0)) {
-        return false;
-    }
-    image_expression::is_expression(bytes_bundle::part(s, 2, 1))
+    bytes_bundle::is_record(s, 2, 2)
+        && is_target(bytes_bundle::part(s, 2, 0))
+        && image_expression::is_expression(bytes_bundle::part(s, 2, 1))
 }
 
 pub fn are_assignments(s: &[u8]) -> bool
     ensures { result ≡ is_there ((list_of 2 assignment).read s.now) }
 {
-    if !bytes_bundle::is_bundle(s, 2) {
-        return false;
-    }
-    let n = bytes_bundle::parts(s, 2);
-    let mut i = 0;
-    let mut at = bytes_bundle::first(s, 2);
-    while i < n {
-        let end = bytes_bundle::next(s, 2, i, at);
-        if !is_assignment(&s[at..end]) {
-            return false;
-        }
-        i += 1;
-        at = end;
-    }
-    true
+    bytes_bundle::is_bundle(s, 2) && bytes_bundle::iter(s, 2).all(is_assignment)
 }
 
 // A record of three marks, the table, the assignments, the condition.
+#[tactic(auto, using(crate::specs::Shapes::is_update_lem, bytes_bundle::specs::Laws::is_record_lem))]
 pub fn is_update(s: &[u8]) -> bool
     ensures { result ≡ is_there (updating.read s.now) }
 {
-    if !bytes_bundle::is_record(s, 2, 4) {
-        return false;
-    }
-    if !are_marks(bytes_bundle::part(s, 2, 0), 3) {
-        return false;
-    }
-    if !is_table(bytes_bundle::part(s, 2, 1)) {
-        return false;
-    }
-    if !are_assignments(bytes_bundle::part(s, 2, 2)) {
-        return false;
-    }
-    is_condition(bytes_bundle::part(s, 2, 3))
+    bytes_bundle::is_record(s, 2, 4)
+        && are_marks(bytes_bundle::part(s, 2, 0), 3)
+        && is_table(bytes_bundle::part(s, 2, 1))
+        && are_assignments(bytes_bundle::part(s, 2, 2))
+        && is_condition(bytes_bundle::part(s, 2, 3))
 }
 
 // ---- what an UPDATE holds

@@ -1,20 +1,21 @@
 -- A value by its bytes: the tests that tell it, and what the value that was read says of them.
 -- Assumes nothing.
-use Rattle.std.specs.Prelude.{◌≡◌, refl, Bool, true, List, [], ◌∷◌, ℕ, ◌-◌, ◌^◌, ◌<◌, length, take, drop, get_or, eqb, ltb, ℤ}
-use Rattle.std.proofs.Common.{sym, ◌∙◌, arith, length-drop, get_or-drop, take_all, lt-ltb, eq-eqb, to_z}
+use Rattle.std.specs.Prelude.{◌≡◌, refl, Bool, true, false, ◌&&◌, ◌||◌, List, [], ◌∷◌, ℕ, zero, suc, ◌-◌, ◌^◌, ◌<◌, length, take, drop, get_or, eqb, ltb, ℤ}
+use Rattle.std.proofs.Common.{sym, ap, ◌∙◌, arith, length-drop, get_or-drop, take_all, lt-ltb, eq-eqb, ne_eqb, to_z}
 use Rattle.std.proofs.Math.Bool.{and-true}
 use Rattle.std.proofs.lemmas.Bool.{false≢true}
 use Rattle.std.proofs.Math.Option.{some-injective}
 use Rattle.std.proofs.Math.Dec.{eqb-suc-suc}
 use Rattle.std.specs.Int.Signed.{mag}
 use Rattle.std.specs.Int.{w64}
+use Rattle.bytes_utf8.specs.Decide.{is_utf8}
 use Rattle.bytes_wire.specs.Le.{Bytes, num}
 use Rattle.bytes_format.specs.Ways.{some_code}
 use Rattle.bytes_format.proofs.Formats.{alone, mark, int64}
 use Rattle.bytes_bundle.specs.Bundle.{is_there}
 use Rattle.bytes_bundle.specs.Cases.{ChoiceHas, choice_has}
 use Rattle.bytes_bundle.specs.Decides.{Decides}
-use Rattle.bytes_bundle.specs.Fields.{int64_spot, field_is, field_value}
+use Rattle.bytes_bundle.specs.Fields.{case_is, nothing_is, text_is, int64_spot, field_is, field_value}
 use Rattle.bytes_bundle.specs.Heads.{Chosen, sum_chosen, mark_spot}
 use Rattle.bytes_bundle.specs.Held.{Holds, Is, Shows, held}
 use Rattle.bytes_bundle.specs.Laws.{some_there}
@@ -56,6 +57,31 @@ behind_code s = take_all (length s - 1) (drop 1 s) (omega (arith, length-drop 1 
 pub int_told : (s : List ℕ) → 0 < length s → eqb (length s) 9 ≡ is_there ((alone int64).read (drop 1 s))
 int_told [] h = absurd (omega arith)
 int_told (c ∷ s) h = eqb-suc-suc (length s) 8 ∙ sym (and-true (eqb (length s) 8)) ∙ sym (field_is int64_spot s)
+
+-- a code, and behind it what the code says
+pub is_value_lem : (s : List ℕ)
+    → is_there (value.read s)
+      ≡ (ltb 0 (length s)
+      && ((eqb (get_or s 0 0) 0 && eqb (length s) 9)
+      || ((eqb (get_or s 0 0) 1 && is_utf8 (drop 1 s))
+      || ((eqb (get_or s 0 0) 2 && (eqb (length s) 2 && ltb (get_or s 1 0) 2)) || (eqb (get_or s 0 0) 3 && eqb (length s) 1)))))
+is_value_lem s = (value_chosen s).is ∙ go s
+  where
+    or-false4 : (b : Bool) → b ≡ (b || (false || (false || false)))
+    or-false4 true = refl
+    or-false4 false = refl
+    go : (s : List ℕ) → (ltb 0 (length s) && case_is values (get_or s 0 0) (drop 1 s))
+        ≡ (ltb 0 (length s)
+        && ((eqb (get_or s 0 0) 0 && eqb (length s) 9)
+        || ((eqb (get_or s 0 0) 1 && is_utf8 (drop 1 s))
+        || ((eqb (get_or s 0 0) 2 && (eqb (length s) 2 && ltb (get_or s 1 0) 2)) || (eqb (get_or s 0 0) 3 && eqb (length s) 1)))))
+    go [] = refl
+    go (zero ∷ s) = ap (λ (b : Bool). ltb 0 (suc (length s)) && b) (sym (int_told (0 ∷ s) (omega arith)) ∙ or-false4 _)
+    go (suc zero ∷ s) = ap (λ (b : Bool). ltb 0 (suc (length s)) && b) (text_is s ∙ or-false4 _)
+    go (suc (suc zero) ∷ s) = ap (λ (b : Bool). ltb 0 (suc (length s)) && b) ((mark_decided s).is ∙ rw (eqb-suc-suc (length s) 1) (or-false4 _))
+    go (suc (suc (suc zero)) ∷ s) = ap (λ (b : Bool). ltb 0 (suc (length s)) && b) (nothing_is s ∙ sym (eqb-suc-suc (length s) 0))
+    go (suc (suc (suc (suc n))) ∷ s) =
+        sym (rw (ne_eqb (suc (suc (suc (suc n)))) 0 (omega arith), ne_eqb (suc (suc (suc (suc n)))) 1 (omega arith), ne_eqb (suc (suc (suc (suc n)))) 2 (omega arith), ne_eqb (suc (suc (suc (suc n)))) 3 (omega arith)))
 
 -- ---- what a value says of its bytes
 

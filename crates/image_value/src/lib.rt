@@ -2,9 +2,6 @@
 #![tactic(auto)]
 
 ghost use Rattle.std.specs.Prelude.{◌≡◌, Bool, ℤ};
-ghost use Rattle.std.specs.Int.{w64};
-ghost use Rattle.std.proofs.Common.{to_z};
-ghost use Rattle.bytes_format.proofs.Formats.{alone, mark};
 ghost use Rattle.bytes_bundle.specs.Bundle.{is_there};
 ghost use Rattle.bytes_bundle.specs.Held.{Is, Holds, Shows};
 ghost use Rattle.rules.specs.Bound.{Value, Value.int, Value.text, Value.bool};
@@ -12,27 +9,16 @@ ghost use Rattle.rules.specs.Lists.{Text};
 ghost use Rattle.image_value.specs.Parts.{value};
 ghost use Rattle.image_value.specs.Values.{type_code, is_int, is_text, is_bool};
 
-fn is_mark(s: &[u8]) -> bool
-    ensures { result ≡ is_there ((alone mark).read s.now) }
-{
-    if s.len() != 1 {
-        return false;
-    }
-    s[0] < 2
-}
-
 // Whether bytes are a value: a type code, and behind it what has that type.
+#[tactic(auto, using(crate::specs::Values::is_value_lem, crate::specs::Values::behind_code))]
 pub fn is_value(s: &[u8]) -> bool
     ensures { result ≡ is_there (value.read s.now) }
 {
-    if s.len() == 0 {
-        return false;
-    }
-    match s[0] {
-        0 => s.len() == 9,
-        1 => bytes_utf8::is_utf8(&s[1..]),
-        2 => is_mark(&s[1..]),
-        3 => s.len() == 1,
+    match s {
+        [0, int @ ..] => int.len() == 8,
+        [1, text @ ..] => bytes_utf8::is_utf8(text),
+        [2, 0 | 1] => true,
+        [3] => true,
         _ => false,
     }
 }
@@ -45,21 +31,11 @@ pub fn type_code(v: &[u8]) -> u8
     v[0]
 }
 
-// Two's complement: a number with the highest bit lies as far below -1 as its bits lie below the largest u64.
-fn signed(n: u64) -> i64
-    ensures { result ≡ to_z w64 n }
-{
-    if n < 9223372036854775808 {
-        return n as i64;
-    }
-    -1 - (18446744073709551615 - n) as i64
-}
-
 pub fn int_of(v: &[u8]) -> i64
     requires { Shows value is_int v.now }
     ensures { (z : ℤ) → Holds value v.now (int z) → result ≡ z }
 {
-    signed(bytes_wire::get(v, 1, 8))
+    bytes_wire::get(v, 1, 8).cast_signed()
 }
 
 // A part of the value: no byte is copied.

@@ -18,13 +18,13 @@ code p = get_or p 8 0
 pub bounds-numbers-8 : goal.bounds-numbers-8
 bounds-numbers-8 c = omega (arith, ap length c.part-numbers.ensures, (column_shape c.requires).wide)
 
-pub returns-then-code-eq0 : goal.returns-then-code-eq0
-returns-then-code-eq0 c = λ v h. type_int _ (column_held h).ty (sym (ap code c.part-numbers.ensures) ∙ c.if-code-eq0.true)
+pub returns-in-0 : goal.returns-in-0
+returns-in-0 c = λ v h. type_int _ (column_held h).ty (omega (arith, ap code c.part-numbers.ensures))
 
-pub returns-then-code-eq1 : goal.returns-then-code-eq1
-returns-then-code-eq1 c = λ v h. type_text _ (column_held h).ty (sym (ap code c.part-numbers.ensures) ∙ c.if-code-eq1.true)
+pub returns-in-1 : goal.returns-in-1
+returns-in-1 c = λ v h. type_text _ (column_held h).ty (omega (arith, ap code c.part-numbers.ensures))
 
-pub returns : goal.returns
-returns c = λ v h.
+pub returns-in_default : goal.returns-in_default
+returns-in_default c = λ v h.
     let e = ap code c.part-numbers.ensures in
-    type_bool _ (column_held h).ty (λ z. c.if-code-eq0.false (e ∙ z)) (λ z. c.if-code-eq1.false (e ∙ z))
+    type_bool _ (column_held h).ty (omega (arith, e)) (omega (arith, e))

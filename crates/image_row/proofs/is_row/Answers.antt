@@ -1,36 +1,12 @@
--- `image_row::is_row` meets its contract. The invariant is the walk over the parts (bundle, `Walk`).
+-- `image_row::is_row` meets its contract.
 use borrow.Author.Rules.{rules}
-use mathlib.Core.Path.{refl, sym}
-use Rattle.bytes_bundle.specs.Decides.{failed, passed}
-use Rattle.bytes_bundle.specs.Heads.{is_a}
-use Rattle.bytes_bundle.specs.Laws.{list_not, walk, walk_stop, walk_on, walk_end}
+use Rattle.bytes_bundle.specs.Chains.{list_tested}
 use Rattle.image_value.specs.Parts.{value}
 use Rattle.image_row.specs.Layout.{row}
-use Rattle.std.proofs.Common.{ap}
-use Rattle.std.proofs.Common.{not}
+use Rattle.std.proofs.Common.{sym, ◌∙◌}
 use Rattle.image_row.proofs.is_row.Goals as goal
 
-pub returns-then-not-is_bundle : goal.returns-then-not-is_bundle
+pub returns-then-is_bundle : goal.returns-then-is_bundle
 unfolding row
-returns-then-not-is_bundle c = sym (list_not 4 value c.args.s.now (failed c.is_bundle.ensures (ap not c.if-not-is_bundle.true)))
-
-pub parts-n-requires : goal.parts-n-requires
-parts-n-requires c = (search rules, record { there = passed c.is_bundle.ensures (ap not c.if-not-is_bundle.false) })
-
-pub first-at-requires : goal.first-at-requires
-first-at-requires c = (search rules, record { there = passed c.is_bundle.ensures (ap not c.if-not-is_bundle.false) })
-
-pub loop-i-init : goal.loop-i-init
-unfolding row
-loop-i-init c = walk value (is_a value) (λ p. refl) (passed c.is_bundle.ensures (ap not c.if-not-is_bundle.false)) c.parts-n.ensures c.first-at.ensures
-
-pub returns-then-not-is_value : goal.returns-then-not-is_value
-returns-then-not-is_value c =
-    walk_stop c.loop-i.invariant c.next-end.ensures (failed c.is_value.ensures (ap not c.if-not-is_value.true))
-
-pub loop-i-preserved : goal.loop-i-preserved
-loop-i-preserved c =
-    walk_on c.loop-i.invariant c.next-end.ensures (passed c.is_value.ensures (ap not c.if-not-is_value.false))
-
-pub returns : goal.returns
-returns c = walk_end c.loop-i.invariant c.loop-i-test.false
+returns-then-is_bundle c =
+    list_tested value 4 _ (sym c.is_bundle.ensures ∙ c.if-is_bundle.true) _ c.iter.ensures _ _ c.all.ensures.ran (λ x b q k. search rules)

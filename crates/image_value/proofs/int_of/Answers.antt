@@ -1,10 +1,6 @@
 -- `image_value::int_of` meets its contract.
-use lib.IntN.{ℤ}
+use Rattle.std.proofs.Common.{ℤ, ap, ◌∙◌, arith, w64, to_z, of_z}
 use mir.Facts.{of_z-to_z}
-use native.Mathlib.Omega.{arith}
-use mathlib.Core.Path.{ap, ◌∙◌}
-use mir.Syntax.{w64}
-use mir.Val.{to_z, of_z}
 use Rattle.image_value.specs.Values.{int_has, int_wide}
 use Rattle.image_value.proofs.int_of.Goals as goal
 
@@ -15,4 +11,4 @@ pub returns : goal.returns
 returns c = λ z h.
     let s = c.args.v.now in
     let n = c.get.ensures in
-    ap (λ (x : ℤ). to_z w64 (of_z w64 x)) c.signed.ensures ∙ ap (to_z w64) (of_z-to_z {w = w64} (record { fits = n.fits }) ∙ n.is) ∙ (int_has s z h).1
+    ap (λ (x : ℤ). to_z w64 (of_z w64 x)) c.cast_signed.ensures ∙ ap (to_z w64) (of_z-to_z {w = w64} (record { fits = n.fits }) ∙ n.is) ∙ (int_has s z h).1

@@ -1,4 +1,4 @@
--- `image_bound::values::put_int` meets its contract: two writes, one behind the other; `bits` speaks of the number that the bits of z stand for: z itself.
+-- `image_bound::values::put_int` meets its contract: two writes, one behind the other.
 use mathlib.Core.Path.{ap, ◌∙◌}
 use mathlib.Core.List.{[], ◌∷◌, ◌++◌}
 use Prim.Native.Nat.{ℕ}
@@ -13,5 +13,5 @@ use Rattle.image_bound.proofs.values.put_int.Goals as goal
 
 pub returns : goal.returns
 returns c =
-    spelt (ap (λ (n : ℕ). (0 ∷ []) ++ le 8 n) (c.bits.ensures ∙ ap (of_z w64) (to_z-of_z c.ranges.z)) ∙ int_spelt c.args.z)
+    spelt (ap (λ (n : ℕ). (0 ∷ []) ++ le 8 n) (c.cast_unsigned.ensures ∙ ap (of_z w64) (to_z-of_z c.ranges.z)) ∙ int_spelt c.args.z)
     (then c.put_byte-a.ensures c.put.ensures)

@@ -1,2 +1,0 @@
--- `Complement`: a signed number from its bits.
-mod Complement
