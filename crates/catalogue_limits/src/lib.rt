@@ -23,18 +23,7 @@ fn are_columns_within(s: &[u8]) -> bool
     requires { Is (list_of 2 (column_schema 2)) s.now }
     ensures { (cs : List ColumnSchema) → Holds (list_of 2 (column_schema 2)) s.now cs → result ≡ all column_within cs }
 {
-    let n = bytes_bundle::parts(s, 2);
-    let mut at = bytes_bundle::first(s, 2);
-    let mut i = 0;
-    while i < n {
-        let end = bytes_bundle::next(s, 2, i, at);
-        if !is_column_within(&s[at..end]) {
-            return false;
-        }
-        at = end;
-        i += 1;
-    }
-    true
+    bytes_bundle::iter(s, 2).all(is_column_within)
 }
 
 fn is_table_within(t: &[u8]) -> bool
@@ -59,18 +48,7 @@ fn are_tables_within(s: &[u8]) -> bool
     requires { Is (list_of 2 table) s.now }
     ensures { (ts : Catalogue) → Holds (list_of 2 table) s.now ts → result ≡ all table_within ts }
 {
-    let n = bytes_bundle::parts(s, 2);
-    let mut at = bytes_bundle::first(s, 2);
-    let mut i = 0;
-    while i < n {
-        let end = bytes_bundle::next(s, 2, i, at);
-        if !is_table_within(&s[at..end]) {
-            return false;
-        }
-        at = end;
-        i += 1;
-    }
-    true
+    bytes_bundle::iter(s, 2).all(is_table_within)
 }
 
 // Whether a catalogue is within the top sizes.
