@@ -1,5 +1,5 @@
-// White space at both ends of UTF-8 text, and the statement that the text alone tells. What is left of a text is a part of the text that was
-// lent.
+// White space at both ends of UTF-8 text, by a table of ranges of code points, and the statement that the text alone tells. What is
+// left of a text is a part of the text that was lent.
 #![tactic(auto)]
 
 ghost use Rattle.std.specs.Prelude.{◌≡◌, ◌<◌, true, MatchOption};
@@ -7,24 +7,30 @@ ghost use Rattle.rules.specs.Trimmed.{white, white1, white2, white3, front_width
 ghost use Rattle.rules.specs.Trimmed.{without_semicolon, dispatched, is_show_transactions};
 ghost use Rattle.text_trim.specs.Plain.{Plain};
 
-// Whether a code point is White_Space.
+// From a code point to a code point.
+#[derive(Clone, Copy)]
+struct Range(u32, u32);
+
+// White_Space.
+const RANGES: [Range; 10] = [
+    Range(0x9, 0xD),
+    Range(0x20, 0x20),
+    Range(0x85, 0x85),
+    Range(0xA0, 0xA0),
+    Range(0x1680, 0x1680),
+    Range(0x2000, 0x200A),
+    Range(0x2028, 0x2029),
+    Range(0x202F, 0x202F),
+    Range(0x205F, 0x205F),
+    Range(0x3000, 0x3000),
+];
+
+// Whether a code point is white space.
 #[tactic(auto, unfolding(rules::specs::Trimmed::within))]
 fn is_white(c: u32) -> bool
     ensures { result ≡ white c }
 {
-    matches!(
-        c,
-        0x9..=0xD
-            | 0x20
-            | 0x85
-            | 0xA0
-            | 0x1680
-            | 0x2000..=0x200A
-            | 0x2028..=0x2029
-            | 0x202F
-            | 0x205F
-            | 0x3000
-    )
+    RANGES.iter().any(|r| r.0 <= c && c <= r.1)
 }
 
 // Whether one, two or three bytes are a code point that is white space.
