@@ -1,6 +1,6 @@
 -- `catalogue_lookup::column_called` meets its contract. The invariant: the first of the name is the first of those that are left.
 use Prim.Native.Nat.{◌+◌, ◌-◌}
-use Rattle.catalogue_lookup.specs.Finds.{bound_hit, bound_miss}
+use Rattle.catalogue_lookup.specs.Finds.{ColumnStands, bound_hit, bound_miss}
 use Rattle.bytes_bundle.specs.Held.{Holds, list_bundle, along, along_on, turn, part_is, left, left_turn, left_on, left_end}
 use Rattle.rules.specs.Lists.{same}
 use Rattle.rules.specs.Lookup.{bound_columns_from}
@@ -37,13 +37,14 @@ pub returns-then-same : goal.returns-then-same
 returns-then-same c = λ cs h.
     let a = c.args in
     let v = turn {f = column_schema 2} c.next-end.ensures h in
-    record {
+    let found : ColumnStands a.name.now cs c.read_column.result = record {
       number = c.loop-i.i;
       value = v.value;
       read = c.read_column.ensures v.value v.holds;
       bound = λ t. left_turn (c.loop-i.invariant.1 t) c.next-end.ensures cs h
           ∙ bound_hit a.name.now t c.loop-i.i v.value (drop (c.loop-i.i + 1) cs) (sym (told (goal.at.returns-then-same c).After-same v.value v.holds) ∙ c.if-same.true);
-    }
+    } in
+    found
 
 pub loop-i-preserved : goal.loop-i-preserved
 loop-i-preserved c =
