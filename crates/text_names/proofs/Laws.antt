@@ -85,6 +85,9 @@ kept quoted s e = rw e (sym (map-id s) ∙ compared_is true s)
 pub folded : (quoted : Bool) (s : Text) → quoted ≡ false → map to_ascii_lowercase s ≡ canonical (named quoted s)
 folded quoted s e = rw e (lowered s ∙ compared_is false s)
 
+pub agree_quoted : (a b : Text) → agreeing true true a b ≡ same a b
+agree_quoted a b = ap₂ same (map-id a) (map-id b)
+
 pub agree_called : (quoted : Bool) (a b : Text) → agreeing quoted true a b ≡ same (canonical (named quoted a)) b
 agree_called quoted a b = ap₂ same (compared_is quoted a) (map-id b)
 

@@ -27,10 +27,12 @@ fn agree(q1: bool, a: &[u8], q2: bool, b: &[u8]) -> bool
 }
 
 // Byte for byte.
+// kept: `a == b` goes by groups from the front, and took longer where names differ in their last byte alone.
+#[tactic(auto, using(crate::proofs::Laws::agree_quoted))]
 pub fn same(a: &[u8], b: &[u8]) -> bool
     ensures { result ≡ same a.now b.now }
 {
-    a == b
+    agree(true, a, true, b)
 }
 
 // The same but for ASCII case.
