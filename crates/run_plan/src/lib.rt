@@ -50,14 +50,10 @@ pub fn plan(t: &[u8], s: &[u8], r: &[u8]) -> Option<[Option<usize>; 64]>
     ensures { (v : TableSchema) (x : Row) (xs : List Assignment) → Holds table t.now v → Holds row r.now x
         → Holds (list_of 2 assignment) s.now xs → Plans v x xs result }
 {
-    let n = bytes_bundle::parts(s, 2);
-    let mut at = bytes_bundle::first(s, 2);
     let mut from = [None; 64];
-    for i in 0..n {
-        let end = bytes_bundle::next(s, 2, i, at);
-        let o = land(t, &s[at..end], r)?;
+    for (i, part) in bytes_bundle::iter(s, 2).enumerate() {
+        let o = land(t, part, r)?;
         from[o] = Some(i);
-        at = end;
     }
     Some(from)
 }

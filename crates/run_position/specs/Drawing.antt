@@ -1,12 +1,11 @@
 -- The value at a position of the new row, by the bytes that it is drawn from, and the room that it takes.
 -- Assumes nothing.
-use Rattle.std.specs.Prelude.{◌≡◌, Bool, true, List, [], ◌∷◌, ℕ, zero, suc, ◌+◌, ◌≤◌, ◌<◌, length, get_or, drop, Option as Maybe, Some, None, IsSome}
+use Rattle.std.specs.Prelude.{◌≡◌, List, [], ◌∷◌, ℕ, zero, suc, ◌+◌, ◌≤◌, ◌<◌, length, get_or, drop, Option as Maybe, Some, None, IsSome}
 use Rattle.std.proofs.Common.{refl, sym, ap, ◌∙◌, subst, arith, length-drop}
 use Rattle.std.proofs.Math.Option.{some, none-ne-some, some-injective}
 use Rattle.bytes_wire.specs.Le.{Bytes}
 use Rattle.bytes_format.proofs.Formats.{list_of}
 use Rattle.bytes_bundle.specs.Bundle.{parts_of}
-use Rattle.bytes_bundle.specs.Decides.{and_of}
 use Rattle.bytes_bundle.specs.Held.{Is, Holds, held_once, is_held, list_count}
 use Rattle.bytes_bundle.specs.Laws.{list_values}
 use Rattle.image_catalogue.specs.Layout.{table}
@@ -14,10 +13,10 @@ use Rattle.run_expression.specs.Short.{value_below}
 use Rattle.run_expression.specs.Works as works
 use Rattle.image_expression.specs.Expression.{expression}
 use Rattle.run_plan.specs.Plans.{source, Drawn, source_old, source_new}
+use Rattle.run_plan.specs.Turns.{all_here}
 use Rattle.image_row.specs.Layout.{row}
 use Rattle.rules.specs.Bound.{Value}
 use Rattle.rules.specs.Evaluate.{evaluate}
-use Rattle.rules.specs.Lists.{all}
 use Rattle.rules.specs.Rows.{Row}
 use Rattle.rules.specs.Statements.{Expr, Assignment}
 use Rattle.rules.specs.Tables.{TableSchema}
@@ -140,12 +139,6 @@ get_d_here zero [] e = absurd (omega (arith, ap length e))
 get_d_here zero (x ∷ xs) e = cc
 get_d_here (suc j) [] e = absurd (omega (arith, ap length e))
 get_d_here (suc j) (x ∷ xs) e = get_d_here j xs e
-
-all_here : (f : Assignment → Bool) (j : ℕ) (xs : List Assignment) {a : Assignment} {l : List Assignment} → all f xs ≡ true → drop j xs ≡ a ∷ l → f a ≡ true
-all_here f zero [] h e = absurd (omega (arith, ap length e))
-all_here f zero (x ∷ xs) {a} h e = let z : x ≡ a = cc in ap f (sym z) ∙ (and_of (f x) (all f xs) h).0
-all_here f (suc j) [] h e = absurd (omega (arith, ap length e))
-all_here f (suc j) (x ∷ xs) h e = all_here f j xs (and_of (f x) (all f xs) h).1 e
 
 -- part j of the assignments is a
 pub record PartIs (t s r : List ℕ) (j : ℕ) (u : Value) : Type 0 where
