@@ -1,10 +1,10 @@
 -- `all` and `any` of an iterator over a list, by the values that its parts hold, and where their closure may be called.
 -- Assumes nothing.
-use Rattle.std.specs.Prelude.{◌≡◌, refl, Bool, true, false, not, ◌&&◌, List, [], ◌∷◌, ℕ, Option, Some, None, MatchOption}
+use Rattle.std.specs.Prelude.{◌≡◌, refl, Bool, true, not, ◌&&◌, List, [], ◌∷◌, ℕ, Option, Some, None, MatchOption}
 use Rattle.std.specs.Fn.{Called, Takes}
 use Rattle.std.specs.List.{FoldsTo, list_all}
 use Rattle.std.specs.Iterator.{YieldsFirstRef, Yields, YieldsThen, CallableAtEachTurn}
-use Rattle.std.proofs.Common.{sym, ap, ◌∙◌, subst}
+use Rattle.std.proofs.Common.{sym, ap, ◌∙◌}
 use Rattle.std.proofs.lemmas.Iterator.Consumers.{YieldsList-from_first}
 use Rattle.std.proofs.lemmas.Iterator.Search.{all_from_yields_List}
 use denote.Param.Members.{Mut}

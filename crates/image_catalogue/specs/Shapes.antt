@@ -42,7 +42,6 @@ pub are_column_numbers_lem : (s : List ℕ)
     → is_there ((alone column_numbers).read s) ≡ (eqb (length s) 10 && (ltb (get_or s 8 0) 3 && ltb (get_or s 9 0) 2))
 are_column_numbers_lem s = (column_numbers_decided s).is
 
-
 abbrev pub column_parts : Places (alone column_numbers and text and end)
 column_parts = part (alone column_numbers) (part_as text is_utf8 text_is done)
 
@@ -55,7 +54,6 @@ column_decided s = via_record_decided 2 column_parts s _
 pub is_column_lem : (s : List ℕ)
     → is_there ((column_schema 2).read s) ≡ (is_record 2 2 s && (is_there ((alone column_numbers).read (get_or (parts_of 2 s) 0 [])) && is_utf8 (get_or (parts_of 2 s) 1 [])))
 is_column_lem s = (column_decided s).is
-
 
 -- ---- a table
 
@@ -87,7 +85,6 @@ table_decided s = via_record_decided 2 table_parts s _
 
 pub is_table_lem : (s : List ℕ)
     → is_there (table.read s)
-      ≡ (is_record 2 4 s && (eqb (length (get_or (parts_of 2 s) 0 [])) 20 && (is_utf8 (get_or (parts_of 2 s) 1 [])
-      && (is_there ((list_of 2 (column_schema 2)).read (get_or (parts_of 2 s) 2 [])) && is_there ((list_of 2 (alone column_id)).read (get_or (parts_of 2 s) 3 []))))))
+    ≡ (is_record 2 4 s && (eqb (length (get_or (parts_of 2 s) 0 [])) 20 && (is_utf8 (get_or (parts_of 2 s) 1 [])
+    && (is_there ((list_of 2 (column_schema 2)).read (get_or (parts_of 2 s) 2 [])) && is_there ((list_of 2 (alone column_id)).read (get_or (parts_of 2 s) 3 []))))))
 is_table_lem s = (table_decided s).is
-

@@ -44,7 +44,6 @@ type_decided s = record { is = field_is (code_spot column_type_enum) s }
 pub is_type_lem : (s : List ℕ) → is_there ((alone column_type).read s) ≡ (eqb (length s) 1 && ltb (get_or s 0 0) 4)
 is_type_lem s = (type_decided s).is
 
-
 -- ---- an option
 
 abbrev pub option_spot : Spot (both mark option_kind)
@@ -57,7 +56,6 @@ option_decided s = record { is = there_next ((alone (both mark option_kind)).rea
 pub is_option_lem : (s : List ℕ) → is_there (option.read s) ≡ (eqb (length s) 2 && (ltb (get_or s 0 0) 2 && ltb (get_or s 1 0) 5))
 is_option_lem s = (option_decided s).is
 
-
 -- ---- a column
 
 abbrev pub column_definition_parts : Places (alone mark and name and list_of 2 option and alone column_type and end)
@@ -69,10 +67,9 @@ column_definition_decided s = via_record_decided 2 column_definition_parts s _
 
 pub is_column_definition_lem : (s : List ℕ)
     → is_there (column_definition.read s)
-      ≡ (is_record 2 4 s && (are_marks 1 (get_or (parts_of 2 s) 0 []) && (is_there (name.read (get_or (parts_of 2 s) 1 []))
-      && (is_there ((list_of 2 option).read (get_or (parts_of 2 s) 2 [])) && is_there ((alone column_type).read (get_or (parts_of 2 s) 3 []))))))
+    ≡ (is_record 2 4 s && (are_marks 1 (get_or (parts_of 2 s) 0 []) && (is_there (name.read (get_or (parts_of 2 s) 1 []))
+    && (is_there ((list_of 2 option).read (get_or (parts_of 2 s) 2 [])) && is_there ((alone column_type).read (get_or (parts_of 2 s) 3 []))))))
 is_column_definition_lem s = (column_definition_decided s).is
-
 
 -- ---- a constraint
 
@@ -83,17 +80,15 @@ pub is_key_lem : (s : List ℕ)
     → is_there ((headed mark (λ m. list_of 2 name)).read s) ≡ (ltb 0 (length s) && (ltb (get_or s 0 0) 2 && is_there ((list_of 2 name).read (drop 1 s))))
 is_key_lem s = (key_marked s).is
 
-
 pub constraint_chosen : (s : List ℕ) → Chosen (is_there (constraint.read s)) s constraint_cases
 unfolding constraint
 constraint_chosen s = sum_chosen constraint_cases which_constraint constraint_made refl refl s
 
 pub is_constraint_lem : (s : List ℕ)
     → is_there (constraint.read s)
-      ≡ ((eqb (length s) 1 && eqb (get_or s 0 0) 0)
-      || (ltb 0 (length s) && (eqb (get_or s 0 0) 1 && is_there ((headed mark (λ m. list_of 2 name)).read (drop 1 s)))))
+    ≡ ((eqb (length s) 1 && eqb (get_or s 0 0) 0)
+    || (ltb 0 (length s) && (eqb (get_or s 0 0) 1 && is_there ((headed mark (λ m. list_of 2 name)).read (drop 1 s)))))
 is_constraint_lem s = bare_or_case (constraint_chosen s)
-
 
 -- ---- the whole
 
@@ -108,7 +103,6 @@ create_decided s = via_record_decided 2 create_parts s _
 
 pub is_create_lem : (s : List ℕ)
     → is_there (create.read s)
-      ≡ (is_record 2 4 s && (are_marks 3 (get_or (parts_of 2 s) 0 []) && (is_there (object_name.read (get_or (parts_of 2 s) 1 []))
-      && (is_there ((list_of 2 column_definition).read (get_or (parts_of 2 s) 2 [])) && is_there ((list_of 2 constraint).read (get_or (parts_of 2 s) 3 []))))))
+    ≡ (is_record 2 4 s && (are_marks 3 (get_or (parts_of 2 s) 0 []) && (is_there (object_name.read (get_or (parts_of 2 s) 1 []))
+    && (is_there ((list_of 2 column_definition).read (get_or (parts_of 2 s) 2 [])) && is_there ((list_of 2 constraint).read (get_or (parts_of 2 s) 3 []))))))
 is_create_lem s = (create_decided s).is
-

@@ -14,9 +14,8 @@ delete_from_chosen s = sum_chosen delete_from_cases which_delete_from delete_fro
 
 pub is_delete_from_lem : (s : List ℕ)
     → is_there (delete_from.read s)
-      ≡ ((eqb (length s) 1 && ltb (get_or s 0 0) 2) || (ltb 0 (length s) && (eqb (get_or s 0 0) 2 && is_there (table_with_joins.read (drop 1 s)))))
+    ≡ ((eqb (length s) 1 && ltb (get_or s 0 0) 2) || (ltb 0 (length s) && (eqb (get_or s 0 0) 2 && is_there (table_with_joins.read (drop 1 s)))))
 is_delete_from_lem s = bare_bare_or_case (delete_from_chosen s)
-
 
 abbrev pub delete_parts : Places (alone (both mark (both mark (both mark (both mark mark)))) and delete_from and condition and end)
 delete_parts =
@@ -29,6 +28,5 @@ delete_decided s = via_record_decided 2 delete_parts s _
 
 pub is_delete_lem : (s : List ℕ)
     → is_there (deletion.read s)
-      ≡ (is_record 2 3 s && (are_marks 5 (get_or (parts_of 2 s) 0 []) && (is_there (delete_from.read (get_or (parts_of 2 s) 1 [])) && is_there (condition.read (get_or (parts_of 2 s) 2 [])))))
+    ≡ (is_record 2 3 s && (are_marks 5 (get_or (parts_of 2 s) 0 []) && (is_there (delete_from.read (get_or (parts_of 2 s) 1 [])) && is_there (condition.read (get_or (parts_of 2 s) 2 [])))))
 is_delete_lem s = (delete_decided s).is
-

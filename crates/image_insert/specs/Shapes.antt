@@ -37,16 +37,14 @@ pub are_values_lem : (s : List ℕ)
     → is_there (values_form.read s) ≡ (ltb 0 (length s) && (ltb (get_or s 0 0) 2 && is_there ((list_of 2 (list_of 2 expression)).read (drop 1 s))))
 are_values_lem s = (values_marked s).is
 
-
 pub source_body_chosen : (s : List ℕ) → Chosen (is_there (source_body.read s)) s source_body_cases
 unfolding source_body
 source_body_chosen s = sum_chosen source_body_cases which_source_body source_body_made refl refl s
 
 pub is_source_body_lem : (s : List ℕ)
     → is_there (source_body.read s)
-      ≡ ((eqb (length s) 1 && eqb (get_or s 0 0) 0) || (ltb 0 (length s) && (eqb (get_or s 0 0) 1 && is_there (values_form.read (drop 1 s)))))
+    ≡ ((eqb (length s) 1 && eqb (get_or s 0 0) 0) || (ltb 0 (length s) && (eqb (get_or s 0 0) 1 && is_there (values_form.read (drop 1 s)))))
 is_source_body_lem s = bare_or_case (source_body_chosen s)
-
 
 pub source_marked : (s : List ℕ) → Marked (is_there (source.read s)) s (is_there (source_body.read (drop 1 s)))
 unfolding source
@@ -54,7 +52,6 @@ source_marked s = via_marked source_body _ s
 
 pub is_source_lem : (s : List ℕ) → is_there (source.read s) ≡ (ltb 0 (length s) && (ltb (get_or s 0 0) 2 && is_there (source_body.read (drop 1 s))))
 is_source_lem s = (source_marked s).is
-
 
 abbrev pub source_not_empty : source.read [] ≡ none
 unfolding source
@@ -78,7 +75,6 @@ insert_decided s = via_record_decided 2 insert_parts s _
 
 pub is_insert_lem : (s : List ℕ)
     → is_there (insertion.read s)
-      ≡ (is_record 2 4 s && (are_marks 1 (get_or (parts_of 2 s) 0 []) && (is_there (object_name.read (get_or (parts_of 2 s) 1 []))
-      && (is_there ((list_of 2 name).read (get_or (parts_of 2 s) 2 [])) && is_there (optional_read source (get_or (parts_of 2 s) 3 []))))))
+    ≡ (is_record 2 4 s && (are_marks 1 (get_or (parts_of 2 s) 0 []) && (is_there (object_name.read (get_or (parts_of 2 s) 1 []))
+    && (is_there ((list_of 2 name).read (get_or (parts_of 2 s) 2 [])) && is_there (optional_read source (get_or (parts_of 2 s) 3 []))))))
 is_insert_lem s = (insert_decided s).is
-

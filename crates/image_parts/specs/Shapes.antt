@@ -40,7 +40,7 @@ is_name_lem s = (name_marked s).is
 
 pub is_object_name_lem : (s : List ℕ)
     → is_there (object_name.read s)
-      ≡ ((eqb (length s) 1 && eqb (get_or s 0 0) 0) || (ltb 0 (length s) && (eqb (get_or s 0 0) 1 && is_there (name.read (drop 1 s)))))
+    ≡ ((eqb (length s) 1 && eqb (get_or s 0 0) 0) || (ltb 0 (length s) && (eqb (get_or s 0 0) 1 && is_there (name.read (drop 1 s)))))
 is_object_name_lem s = bare_or_case (object_name_chosen s)
 
 -- ---- one table
@@ -67,7 +67,7 @@ is_direct_lem s = (direct_marked s).is
 
 pub is_relation_lem : (s : List ℕ)
     → is_there (relation.read s)
-      ≡ ((eqb (length s) 1 && eqb (get_or s 0 0) 0) || (ltb 0 (length s) && (eqb (get_or s 0 0) 1 && is_there (direct_form.read (drop 1 s)))))
+    ≡ ((eqb (length s) 1 && eqb (get_or s 0 0) 0) || (ltb 0 (length s) && (eqb (get_or s 0 0) 1 && is_there (direct_form.read (drop 1 s)))))
 unfolding direct_form
 is_relation_lem s = bare_or_case (relation_chosen s)
 

@@ -32,9 +32,8 @@ item_chosen s = sum_chosen item_cases which_item item_made refl refl s
 
 pub is_item_lem : (s : List ℕ)
     → is_there (item.read s)
-      ≡ ((eqb (length s) 1 && ltb (get_or s 0 0) 2) || (ltb 0 (length s) && (eqb (get_or s 0 0) 2 && is_there (name.read (drop 1 s)))))
+    ≡ ((eqb (length s) 1 && ltb (get_or s 0 0) 2) || (ltb 0 (length s) && (eqb (get_or s 0 0) 2 && is_there (name.read (drop 1 s)))))
 is_item_lem s = bare_bare_or_case (item_chosen s)
-
 
 pub select_from_chosen : (s : List ℕ) → Chosen (is_there (select_from.read s)) s from_cases
 unfolding select_from
@@ -42,9 +41,8 @@ select_from_chosen s = sum_chosen from_cases which_from from_made refl refl s
 
 pub is_select_from_lem : (s : List ℕ)
     → is_there (select_from.read s)
-      ≡ ((eqb (length s) 1 && eqb (get_or s 0 0) 0) || (ltb 0 (length s) && (eqb (get_or s 0 0) 1 && is_there (table_with_joins.read (drop 1 s)))))
+    ≡ ((eqb (length s) 1 && eqb (get_or s 0 0) 0) || (ltb 0 (length s) && (eqb (get_or s 0 0) 1 && is_there (table_with_joins.read (drop 1 s)))))
 is_select_from_lem s = bare_or_case (select_from_chosen s)
-
 
 abbrev pub select_parts : Places (alone mark and select_from and list_of 2 item and condition and end)
 select_parts = part_as (alone mark) (are_marks 1) (marks_are one_mark) (part select_from (part (list_of 2 item) (part condition done)))
@@ -55,10 +53,9 @@ select_decided s = via_record_decided 2 select_parts s _
 
 pub is_select_lem : (s : List ℕ)
     → is_there (select.read s)
-      ≡ (is_record 2 4 s && (are_marks 1 (get_or (parts_of 2 s) 0 []) && (is_there (select_from.read (get_or (parts_of 2 s) 1 []))
-      && (is_there ((list_of 2 item).read (get_or (parts_of 2 s) 2 [])) && is_there (condition.read (get_or (parts_of 2 s) 3 []))))))
+    ≡ (is_record 2 4 s && (are_marks 1 (get_or (parts_of 2 s) 0 []) && (is_there (select_from.read (get_or (parts_of 2 s) 1 []))
+    && (is_there ((list_of 2 item).read (get_or (parts_of 2 s) 2 [])) && is_there (condition.read (get_or (parts_of 2 s) 3 []))))))
 is_select_lem s = (select_decided s).is
-
 
 pub query_body_chosen : (s : List ℕ) → Chosen (is_there (query_body.read s)) s query_body_cases
 unfolding query_body
@@ -66,9 +63,8 @@ query_body_chosen s = sum_chosen query_body_cases which_query_body query_body_ma
 
 pub is_query_body_lem : (s : List ℕ)
     → is_there (query_body.read s)
-      ≡ ((eqb (length s) 1 && eqb (get_or s 0 0) 0) || (ltb 0 (length s) && (eqb (get_or s 0 0) 1 && is_there (select.read (drop 1 s)))))
+    ≡ ((eqb (length s) 1 && eqb (get_or s 0 0) 0) || (ltb 0 (length s) && (eqb (get_or s 0 0) 1 && is_there (select.read (drop 1 s)))))
 is_query_body_lem s = bare_or_case (query_body_chosen s)
-
 
 pub query_marked : (s : List ℕ) → Marked (is_there (selection.read s)) s (is_there (query_body.read (drop 1 s)))
 unfolding selection
@@ -76,4 +72,3 @@ query_marked s = via_marked query_body _ s
 
 pub is_query_lem : (s : List ℕ) → is_there (selection.read s) ≡ (ltb 0 (length s) && (ltb (get_or s 0 0) 2 && is_there (query_body.read (drop 1 s))))
 is_query_lem s = (query_marked s).is
-

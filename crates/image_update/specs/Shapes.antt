@@ -15,9 +15,8 @@ target_chosen s = sum_chosen target_cases which_target target_made refl refl s
 
 pub is_target_lem : (s : List ℕ)
     → is_there (assignment_target.read s)
-      ≡ ((eqb (length s) 1 && eqb (get_or s 0 0) 0) || (ltb 0 (length s) && (eqb (get_or s 0 0) 1 && is_there (object_name.read (drop 1 s)))))
+    ≡ ((eqb (length s) 1 && eqb (get_or s 0 0) 0) || (ltb 0 (length s) && (eqb (get_or s 0 0) 1 && is_there (object_name.read (drop 1 s)))))
 is_target_lem s = bare_or_case (target_chosen s)
-
 
 abbrev pub assignment_parts : Places (assignment_target and expression and end)
 assignment_parts = part assignment_target (part expression done)
@@ -28,9 +27,8 @@ assignment_decided s = via_record_decided 2 assignment_parts s _
 
 pub is_assignment_lem : (s : List ℕ)
     → is_there (assignment.read s)
-      ≡ (is_record 2 2 s && (is_there (assignment_target.read (get_or (parts_of 2 s) 0 [])) && is_there (expression.read (get_or (parts_of 2 s) 1 []))))
+    ≡ (is_record 2 2 s && (is_there (assignment_target.read (get_or (parts_of 2 s) 0 [])) && is_there (expression.read (get_or (parts_of 2 s) 1 []))))
 is_assignment_lem s = (assignment_decided s).is
-
 
 abbrev pub update_parts : Places (alone (both mark (both mark mark)) and table_with_joins and list_of 2 assignment and condition and end)
 update_parts =
@@ -43,7 +41,6 @@ update_decided s = via_record_decided 2 update_parts s _
 
 pub is_update_lem : (s : List ℕ)
     → is_there (updating.read s)
-      ≡ (is_record 2 4 s && (are_marks 3 (get_or (parts_of 2 s) 0 []) && (is_there (table_with_joins.read (get_or (parts_of 2 s) 1 []))
-      && (is_there ((list_of 2 assignment).read (get_or (parts_of 2 s) 2 [])) && is_there (condition.read (get_or (parts_of 2 s) 3 []))))))
+    ≡ (is_record 2 4 s && (are_marks 3 (get_or (parts_of 2 s) 0 []) && (is_there (table_with_joins.read (get_or (parts_of 2 s) 1 []))
+    && (is_there ((list_of 2 assignment).read (get_or (parts_of 2 s) 2 [])) && is_there (condition.read (get_or (parts_of 2 s) 3 []))))))
 is_update_lem s = (update_decided s).is
-

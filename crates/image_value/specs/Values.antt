@@ -61,15 +61,16 @@ int_told (c ∷ s) h = eqb-suc-suc (length s) 8 ∙ sym (and-true (eqb (length s
 -- a code, and behind it what the code says
 pub is_value_lem : (s : List ℕ)
     → is_there (value.read s)
-      ≡ (ltb 0 (length s)
-      && ((eqb (get_or s 0 0) 0 && eqb (length s) 9)
-      || ((eqb (get_or s 0 0) 1 && is_utf8 (drop 1 s))
-      || ((eqb (get_or s 0 0) 2 && (eqb (length s) 2 && ltb (get_or s 1 0) 2)) || (eqb (get_or s 0 0) 3 && eqb (length s) 1)))))
+    ≡ (ltb 0 (length s)
+    && ((eqb (get_or s 0 0) 0 && eqb (length s) 9)
+    || ((eqb (get_or s 0 0) 1 && is_utf8 (drop 1 s))
+    || ((eqb (get_or s 0 0) 2 && (eqb (length s) 2 && ltb (get_or s 1 0) 2)) || (eqb (get_or s 0 0) 3 && eqb (length s) 1)))))
 is_value_lem s = (value_chosen s).is ∙ go s
   where
     or-false4 : (b : Bool) → b ≡ (b || (false || (false || false)))
     or-false4 true = refl
     or-false4 false = refl
+
     go : (s : List ℕ) → (ltb 0 (length s) && case_is values (get_or s 0 0) (drop 1 s))
         ≡ (ltb 0 (length s)
         && ((eqb (get_or s 0 0) 0 && eqb (length s) 9)
