@@ -36,37 +36,32 @@ fn put_id_lengths(out: &mut [u8], at: usize, n: usize) -> usize
     requires { at + 4 * n ≤ length out.old }
     ensures { Wrote out.old at (id_lengths n) result out.new }
 {
-    let mut i = 0;
     let mut to = at;
-    while i < n {
+    for _ in 0..n {
         to = bytes_wire::put(out, to, 4, 8);
-        i += 1;
     }
     to
 }
 
-fn put_id_bodies(out: &mut [u8], at: usize, ids: [ColumnId; 64], n: usize) -> usize
-    requires { (n ≤ 64) × (at + 8 * n ≤ length out.old) }
-    ensures { Wrote out.old at (bodies (alone column_id) (take n ids)) result out.new }
+fn put_id_bodies(out: &mut [u8], at: usize, ids: &[ColumnId]) -> usize
+    requires { at + 8 * length ids.now ≤ length out.old }
+    ensures { Wrote out.old at (bodies (alone column_id) ids.now) result out.new }
 {
-    let mut i = 0;
     let mut to = at;
-    while i < n {
-        let id = ids[i];
-        to = put_id(out, to, id);
-        i += 1;
+    for id in ids {
+        to = put_id(out, to, *id);
     }
     to
 }
 
-// The first n of the ids: an array of ids can't be lent, and so its length can't tell how many they are.
+// The first n of the ids.
 pub fn put_ids(out: &mut [u8], at: usize, ids: [ColumnId; 64], n: usize) -> usize
     requires { (n ≤ 64) × (at + (4 + 12 * n) ≤ length out.old) }
     ensures { Wrote out.old at ((list_of 4 (alone column_id)).write (take n ids)) result out.new }
 {
     let a = put_count(out, at, n);
     let b = put_id_lengths(out, a, n);
-    put_id_bodies(out, b, ids, n)
+    put_id_bodies(out, b, &ids[..n])
 }
 
 // No key is longer than an image may be, so nothing wraps.

@@ -1,20 +1,25 @@
--- A scan of a list from the front, for an element that passes a test.
+-- Whether some byte of a list is past ASCII.
 -- Assumes nothing.
-use mathlib.Core.Path.{◌≡◌}
-use mathlib.Core.Bool.{Bool, true, false}
-use mathlib.Core.List.{List}
-use Prim.Native.Nat.{ℕ, ◌+◌, ◌<◌, ◌≤◌}
-use native.Mathlib.Numerals.{add-one}
-use lib.ListN.{length, drop, get_or, drop_of_length-le}
-use lib.Seq.{drop-cons}
-use Rattle.rules.specs.Lists.{any}
+use Rattle.std.proofs.Common.{◌≡◌, refl, zero, suc, Bool, true, false, not, [], ◌∷◌, MatchBool, arith}
+use Rattle.std.specs.Str.{IsAscii, IsNotAscii}
+use Rattle.std.proofs.lemmas.Bool.Decides.{nat_tests}
+use lib.Dec.{leb}
+use Rattle.rules.specs.Lists.{Text, any}
 
-module _ (p : ℕ → Bool) (s : List ℕ) (i : ℕ) where
-  pub hit : i < length s → p (get_or s i 0) ≡ true → any p (drop i s) ≡ true
-  hit l h = rw (drop-cons s i 0 l, h)
+none_beyond : (s : Text) → IsAscii s → any (leb 128) s ≡ false
+none_beyond [] h = refl
+none_beyond (b ∷ s) h =
+    let first = h 0 in
+    let rest = none_beyond s (λ i. h (suc i)) in
+    grind (arith, nat_tests)
 
-  pub miss : i < length s → p (get_or s i 0) ≡ false → any p (drop i s) ≡ any p (drop (i + 1) s)
-  miss l h = rw (drop-cons s i 0 l, h, add-one i)
+one_beyond : (s : Text) → IsNotAscii s → any (leb 128) s ≡ true
+one_beyond [] h = absurd (omega (arith, h.1))
+one_beyond (b ∷ s) (zero, h) = grind (arith, nat_tests)
+one_beyond (b ∷ s) (suc i, h) =
+    let rest = one_beyond s (i, h) in
+    grind (arith, nat_tests)
 
-  pub over : length s ≤ i → any p (drop i s) ≡ false
-  over l = rw (drop_of_length-le s {i = i} l)
+pub some_beyond : (r : Bool) (s : Text) → MatchBool r (IsAscii s) (IsNotAscii s) → any (leb 128) s ≡ not r
+some_beyond true s h = none_beyond s h
+some_beyond false s h = one_beyond s h

@@ -1,6 +1,7 @@
 -- The names of an expression are those of its nodes, in their order.
 -- Assumes nothing.
 use Rattle.std.specs.Prelude.{◌≡◌, refl, Bool, true, false, cond, not, ◌&&◌, ◌||◌, List, [], ◌∷◌, ◌++◌, ℕ, zero, suc, ◌+◌, ◌-◌, ◌<◌, ◌≤◌, length, leb, eqb, ltb}
+use Rattle.std.specs.List.{list_all, list_any, range_with_len}
 use Rattle.std.proofs.Common.{◌∙◌, sym, ap, ap₂, append_assoc, append-nil, le-ltb, lt-ltb, eq-eqb}
 use Rattle.std.proofs.Math.Bool.{and_assoc, and-true, or_assoc, or-false}
 use native.Mathlib.Omega.{arith}
@@ -179,3 +180,31 @@ module _ {f : List Name → Bool} {z : Bool} (look : Look f z) {s : List ℕ} {n
   pub ends : n ≤ i → Says f s z
   unfolding names_from
   ends l = let e : n - i ≡ 0 = omega arith in said z (rw e look.nothing)
+
+-- the test of node j
+abbrev pub names_pass : {f : List Name → Bool} {z : Bool} → Look f z → List ℕ → ℕ → Bool
+names_pass {f} look s j = f (node_names (node_at s j))
+
+-- a chain over the nodes, which stops where it finds something
+module _ {f : List Name → Bool} {s : List ℕ} {n : ℕ} where
+  all_turn : (look : Look f true) {i : ℕ} → Passed f s n i → i < n → (b r : Bool) → names_pass look s i ≡ b → (Passed f s n (i + 1) → Says f s r) → Says f s (b && r)
+  all_turn look p l true r h k = k (passes look p l h)
+  all_turn look p l false r h k = stops look p l h
+
+  all_says : (look : Look f true) (k i : ℕ) → i + k ≡ n → Passed f s n i → Says f s (list_all (names_pass look s) (range_with_len i k))
+  all_says look zero i e p = ends look p (omega (arith, e))
+  all_says look (suc k) i e p = all_turn look p (omega (arith, e)) _ _ refl (all_says look k (i + 1) (omega (arith, e)))
+
+  pub walk_all : (look : Look f true) (k i : ℕ) → i + k ≡ n → Passed f s n i → {r : Bool} → r ≡ list_all (names_pass look s) (range_with_len i k) → Says f s r
+  walk_all look k i e p h = rw h (all_says look k i e p)
+
+  any_turn : (look : Look f false) {i : ℕ} → Passed f s n i → i < n → (b r : Bool) → names_pass look s i ≡ b → (Passed f s n (i + 1) → Says f s r) → Says f s (b || r)
+  any_turn look p l true r h k = stops look p l h
+  any_turn look p l false r h k = k (passes look p l h)
+
+  any_says : (look : Look f false) (k i : ℕ) → i + k ≡ n → Passed f s n i → Says f s (list_any (names_pass look s) (range_with_len i k))
+  any_says look zero i e p = ends look p (omega (arith, e))
+  any_says look (suc k) i e p = any_turn look p (omega (arith, e)) _ _ refl (any_says look k (i + 1) (omega (arith, e)))
+
+  pub walk_any : (look : Look f false) (k i : ℕ) → i + k ≡ n → Passed f s n i → {r : Bool} → r ≡ list_any (names_pass look s) (range_with_len i k) → Says f s r
+  walk_any look k i e p h = rw h (any_says look k i e p)

@@ -1,7 +1,8 @@
 -- What the reader tests at each node, and that those tests tell an image from other bytes.
 -- Assumes nothing.
-use Rattle.std.specs.Prelude.{◌≡◌, refl, Bool, true, cond, not, List, [], ℕ, ◌+◌, ◌-◌, ◌<◌, ◌≤◌, length, leb, ltb, eqb}
-use Rattle.std.proofs.Common.{◌∙◌, below_more}
+use Rattle.std.specs.Prelude.{◌≡◌, refl, Bool, true, cond, not, ◌&&◌, List, [], ℕ, zero, suc, ◌+◌, ◌-◌, ◌<◌, ◌≤◌, length, leb, ltb, eqb}
+use Rattle.std.specs.List.{list_all, range_with_len}
+use Rattle.std.proofs.Common.{◌∙◌, below_more, subst}
 use Rattle.std.proofs.Math.Path.{sym, ap}
 use Rattle.std.proofs.Math.Bool.{false}
 use Rattle.std.proofs.lemmas.Bool.{false≢true}
@@ -315,3 +316,29 @@ module _ {s : List ℕ} {n last i : ℕ} (p : Passed s n last i) where
   last_decides l x y m e f h d =
       rw (d, p.many, last_node)
       (decided p.bytes (rw last_node at (passed_room p last (omega arith))) (λ j g. p.good j (omega (arith, p.many, p.end))) (ap (end_at s) (sym last_node) ∙ sym e ∙ h ∙ f))
+
+-- ---- a chain over the nodes, which stops at one that is not good
+
+abbrev pub good_node : List ℕ → ℕ → Bool
+good_node s j = content_ok s j && shape_ok (node_at s) j
+
+-- what it found: r says whether all nodes are good
+pub record Walked (s : List ℕ) (n last : ℕ) (r : Bool) : Type 0 where
+  pub passed : r ≡ true → Passed s n last n
+  pub failed : r ≡ false → false ≡ is_some (expression.read s)
+
+module _ {s : List ℕ} {n last : ℕ} where
+  walk_turn : {i : ℕ} → Passed s n last i → i ≤ last → (b d r : Bool) → content_ok s i ≡ b → shape_ok (node_at s) i ≡ d
+      → (Passed s n last (i + 1) → Walked s n last r) → Walked s n last ((b && d) && r)
+  walk_turn p l true true r e h k = k (passes p l true true (sym e) refl (sym h) refl)
+  walk_turn p l true false r e h k = record { passed = λ z. absurd (false≢true z); failed = λ z. stopped_shape p l false (sym h) refl }
+  walk_turn p l false d r e h k = record { passed = λ z. absurd (false≢true z); failed = λ z. stopped_content p l false (sym e) refl }
+
+  walk_nodes : (k i : ℕ) → i + k ≡ n → Passed s n last i → Walked s n last (list_all (good_node s) (range_with_len i k))
+  walk_nodes zero i e p =
+      let d : i ≡ n = omega (arith, e) in
+      record { passed = λ z. subst (Passed s n last) d p; failed = λ z. absurd (false≢true (sym z)) }
+  walk_nodes (suc k) i e p = walk_turn p (omega (arith, e, p.end)) _ _ _ refl refl (walk_nodes k (i + 1) (omega (arith, e)))
+
+  pub walked : (k : ℕ) → k ≡ n → Passed s n last 0 → {r : Bool} → r ≡ list_all (good_node s) (range_with_len 0 k) → Walked s n last r
+  walked k e p h = rw h (walk_nodes k 0 (omega (arith, e)) p)

@@ -57,20 +57,10 @@ pub fn is_expression(s: &[u8]) -> bool
         return false;
     }
     let last = n - 1;
-    let mut i = 0;
-    while i <= last {
-        if !reader::content_ok(s, i) {
-            return false;
-        }
-        if !reader::shape_ok(s, i) {
-            return false;
-        }
-        i += 1;
-    }
-    if layout::end(s, last) != layout::bytes_behind(s) {
+    if !(0..n).all(|i| reader::content_ok(s, i) && reader::shape_ok(s, i)) {
         return false;
     }
-    layout::span(s, last) == n
+    layout::end(s, last) == layout::bytes_behind(s) && layout::span(s, last) == n
 }
 
 // Whether the tree whose root is node i is at most `budget` nodes deep (a leaf is 1). It calls itself at most `budget` deep, whatever the tree;
@@ -103,15 +93,7 @@ pub fn names_within(s: &[u8]) -> bool
     requires { IsImage s.now }
     ensures { (e : Expr) → IsExpression s.now e → result ≡ all (λ (n : Name). name_within n.text) (expression_names e) }
 {
-    let n = nodes(s);
-    let mut i = 0;
-    while i < n {
-        if !names::within(s, i) {
-            return false;
-        }
-        i += 1;
-    }
-    true
+    (0..nodes(s)).all(|i| names::within(s, i))
 }
 
 // Whether an unquoted name of the expression holds a byte past ASCII.
@@ -119,13 +101,5 @@ pub fn names_beyond_ascii(s: &[u8]) -> bool
     requires { IsImage s.now }
     ensures { (e : Expr) → IsExpression s.now e → result ≡ any beyond_ascii (expression_names e) }
 {
-    let n = nodes(s);
-    let mut i = 0;
-    while i < n {
-        if names::beyond_ascii(s, i) {
-            return true;
-        }
-        i += 1;
-    }
-    false
+    (0..nodes(s)).any(|i| names::beyond_ascii(s, i))
 }

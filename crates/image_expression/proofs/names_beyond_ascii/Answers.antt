@@ -1,22 +1,18 @@
--- `names_beyond_ascii` meets its contract. The invariant: no name at the nodes passed is beyond ASCII.
-use mathlib.Core.Path.{sym, ◌∙◌}
-use native.Mathlib.Omega.{arith}
+-- `names_beyond_ascii` meets its contract: the names at the nodes, one node after the other.
+use Rattle.std.proofs.Common.{refl, rules, tests, arith}
+use Rattle.std.proofs.lemmas.Iterator.{serves_from_Range, YieldsList-from_range}
+use Rattle.std.proofs.lemmas.Iterator.Search.{any_from_yields_List}
 use Rattle.rules.specs.Names.{beyond_ascii}
-use Rattle.image_expression.specs.Names.{begun, has_node, passes, stops, ends, any_look}
+use Rattle.image_expression.specs.Names.{names_pass, begun, has_node, any_look, walk_any}
 use Rattle.image_expression.proofs.Known.{known}
 use Rattle.image_expression.proofs.names_beyond_ascii.Goals as goal
 
-pub loop-i-init : goal.loop-i-init
-loop-i-init c = begun (known c.type_inv.s) c.requires c.nodes-n.ensures
-
-pub beyond_ascii-requires : goal.beyond_ascii-requires
-beyond_ascii-requires c = has_node (any_look beyond_ascii) c.loop-i.invariant _ (omega arith)
-
-pub returns-then-beyond_ascii : goal.returns-then-beyond_ascii
-returns-then-beyond_ascii c = stops (any_look beyond_ascii) c.loop-i.invariant (omega arith) (sym c.beyond_ascii.ensures ∙ c.if-beyond_ascii.true)
-
-pub loop-i-preserved : goal.loop-i-preserved
-loop-i-preserved c = passes (any_look beyond_ascii) c.loop-i.invariant (omega arith) (sym c.beyond_ascii.ensures ∙ c.if-beyond_ascii.false)
+pub any-requires-clause-callable : goal.any-requires-clause-callable
+any-requires-clause-callable c =
+    serves_from_Range (λ x q k. search (rules, tests))
+    (λ x low high. let h = has_node (any_look beyond_ascii) (begun (known c.type_inv.s) c.requires c.nodes.ensures) x high in search rules)
 
 pub returns : goal.returns
-returns c = ends (any_look beyond_ascii) c.loop-i.invariant (omega arith)
+returns c =
+    walk_any (any_look beyond_ascii) _ 0 (omega arith) (begun (known c.type_inv.s) c.requires c.nodes.ensures)
+    (any_from_yields_List (names_pass (any_look beyond_ascii) c.args.s.now) _ _ _ c.any.ensures.ran (YieldsList-from_range 0 _ _ refl refl) (λ x b q k. search (rules, tests)))

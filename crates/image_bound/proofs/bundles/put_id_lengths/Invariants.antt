@@ -4,8 +4,5 @@ use Rattle.image_bound.specs.Spelt.{id_lengths}
 use Rattle.image_bound.specs.Written.{Rest}
 use Rattle.image_bound.proofs.bundles.put_id_lengths.Given as goal
 
-abbrev pub invariant-loop-i : goal.invariant-loop-i
-invariant-loop-i l = (l.i ≤ l.n) × Rest l.initial.out l.at (id_lengths l.n) (id_lengths (l.n - l.i)) l.to l.out
-
-abbrev pub decreases-loop-i : goal.decreases-loop-i
-decreases-loop-i l = l.n - l.i
+abbrev pub invariant-loop : goal.invariant-loop
+invariant-loop l = (l.counter ≤ l.n) × Rest l.initial.out l.at (id_lengths l.n) (id_lengths (l.n - l.counter)) l.to l.out

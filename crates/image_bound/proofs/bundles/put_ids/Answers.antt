@@ -13,7 +13,8 @@ use Rattle.image_bound.proofs.bundles.put_ids.Goals as goal
 
 pub put_id_bodies-requires : goal.put_id_bodies-requires
 put_id_bodies-requires c =
-    (c.requires.0, omega (arith, ended c.put_id_lengths-b.ensures (id_lengths_length c.args.n)))
+    let long : c.args.n ≤ length c.args.ids = search rules in
+    omega (arith, c.requires.1, ended c.put_id_lengths-b.ensures (id_lengths_length c.args.n), length-take-le c.args.n c.args.ids long)
 
 pub returns : goal.returns
 returns c =
