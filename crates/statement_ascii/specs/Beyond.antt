@@ -1,6 +1,7 @@
 -- Number 8 along a statement: looks through gathered names, one part after the other.
 -- Assumes nothing.
 use Rattle.std.specs.Prelude.{◌≡◌, refl, Bool, true, false, List, [], ◌∷◌, ◌++◌, map}
+use Rattle.std.proofs.Common.{sym, ap, ◌∙◌, append_assoc}
 use Rattle.std.proofs.Math.Bool.{or-false}
 use Rattle.bytes_bundle.specs.Looks.{Looks}
 use Rattle.rules.specs.Lists.{any}
@@ -23,6 +24,23 @@ module _ (a b : List Name) where
 
   pub beyond_on : Beyond a ≡ false → Beyond (a ++ b) ≡ Beyond b
   beyond_on e = (any_look beyond_ascii).on a b e
+
+-- ---- tests joined by `||`, as the code makes them: where the first finds such a name, it is the answer
+
+module _ (a b : List Name) {r : Bool} where
+  pub or_stop : r ≡ Beyond a → r ≡ true → r ≡ Beyond (a ++ b)
+  or_stop e t = t ∙ sym (beyond_stop a b (sym e ∙ t))
+
+  pub or_on : {q : Bool} → r ≡ Beyond a → r ≡ false → q ≡ Beyond b → q ≡ Beyond (a ++ b)
+  or_on e t k = k ∙ sym (beyond_on a b (sym e ∙ t))
+
+  -- the first two of three
+  module _ (c : List Name) (e : r ≡ Beyond (a ++ b)) where
+    pub two_stop : r ≡ true → r ≡ Beyond (a ++ (b ++ c))
+    two_stop t = t ∙ sym (beyond_stop (a ++ b) c (sym e ∙ t)) ∙ ap Beyond (append_assoc a b c)
+
+    pub two_on : {q : Bool} → r ≡ false → q ≡ Beyond c → q ≡ Beyond (a ++ (b ++ c))
+    two_on t k = k ∙ sym (beyond_on (a ++ b) c (sym e ∙ t)) ∙ ap Beyond (append_assoc a b c)
 
 -- ---- loops
 

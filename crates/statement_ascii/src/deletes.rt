@@ -22,8 +22,5 @@ pub fn delete_beyond(d: &[u8]) -> bool
     requires { Is deletion d.now }
     ensures { (v : Delete) → Holds deletion d.now v → result ≡ Beyond (held_by_delete v).names }
 {
-    if from_beyond(image_delete::from_of(d)) {
-        return true;
-    }
-    condition_beyond(image_delete::condition_of(d))
+    from_beyond(image_delete::from_of(d)) || condition_beyond(image_delete::condition_of(d))
 }

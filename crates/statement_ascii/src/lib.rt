@@ -4,7 +4,6 @@
 mod creates;
 mod deletes;
 mod inserts;
-mod lists;
 mod named;
 mod selects;
 mod updates;

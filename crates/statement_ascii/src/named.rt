@@ -5,6 +5,7 @@ ghost use Rattle.bytes_bundle.specs.Held.{Is, Holds};
 ghost use Rattle.rules.specs.Names.{beyond_ascii};
 ghost use Rattle.rules.specs.Statements.{Name, ObjectName, Relation, TableWithJoins, Expr};
 ghost use Rattle.rules.specs.Limits.{gather, if_there, expression_names, object_names, relation_names, table_names};
+ghost use Rattle.image_expression.specs.Expression.{expression};
 ghost use Rattle.image_parts.specs.Layout.{name, object_name, relation, table_with_joins, condition};
 ghost use Rattle.statement_ascii.specs.Beyond.{Beyond};
 
@@ -45,6 +46,13 @@ pub fn table_beyond(t: &[u8]) -> bool
     relation_beyond(table::relation_of(t))
 }
 
+pub fn value_beyond(e: &[u8]) -> bool
+    requires { Is expression e.now }
+    ensures { (v : Expr) → Holds expression e.now v → result ≡ Beyond (expression_names v) }
+{
+    image_expression::names_beyond_ascii(e)
+}
+
 pub fn condition_beyond(c: &[u8]) -> bool
     requires { Is condition c.now }
     ensures { (v : Option Expr) → Holds condition c.now v → result ≡ Beyond (gather expression_names (if_there v)) }
@@ -52,5 +60,5 @@ pub fn condition_beyond(c: &[u8]) -> bool
     if !image_parts::condition::has_condition(c) {
         return false;
     }
-    image_expression::names_beyond_ascii(c)
+    value_beyond(c)
 }

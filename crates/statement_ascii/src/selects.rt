@@ -6,10 +6,9 @@ ghost use Rattle.rules.specs.Limits.{item_names, from_names, held_by_select, hel
 ghost use Rattle.image_parts.specs.Layout.{item, select_from, select, query_body, selection};
 ghost use Rattle.statement_ascii.specs.Beyond.{Beyond};
 
-use crate::lists::{Of, list_beyond};
 use crate::named::{condition_beyond, name_beyond, table_beyond};
 
-pub fn item_beyond(i: &[u8]) -> bool
+fn item_beyond(i: &[u8]) -> bool
     requires { Is item i.now }
     ensures { (v : Item) → Holds item i.now v → result ≡ Beyond (item_names v) }
 {
@@ -33,13 +32,9 @@ fn select_beyond(s: &[u8]) -> bool
     requires { Is select s.now }
     ensures { (v : Select) → Holds select s.now v → result ≡ Beyond (held_by_select v).names }
 {
-    if from_beyond(image_select::from_of(s)) {
-        return true;
-    }
-    if list_beyond(image_select::items_of(s), Of::Items) {
-        return true;
-    }
-    condition_beyond(image_select::condition_of(s))
+    from_beyond(image_select::from_of(s))
+        || bytes_bundle::iter(image_select::items_of(s), 2).any(item_beyond)
+        || condition_beyond(image_select::condition_of(s))
 }
 
 fn body_beyond(b: &[u8]) -> bool

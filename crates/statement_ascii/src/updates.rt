@@ -6,8 +6,7 @@ ghost use Rattle.rules.specs.Limits.{target_names, assignment_names, held_by_upd
 ghost use Rattle.image_parts.specs.Layout.{assignment_target, assignment, updating};
 ghost use Rattle.statement_ascii.specs.Beyond.{Beyond};
 
-use crate::lists::{Of, list_beyond};
-use crate::named::{condition_beyond, object_name_beyond, table_beyond};
+use crate::named::{condition_beyond, object_name_beyond, table_beyond, value_beyond};
 
 fn target_beyond(t: &[u8]) -> bool
     requires { Is assignment_target t.now }
@@ -20,25 +19,18 @@ fn target_beyond(t: &[u8]) -> bool
 }
 
 // The value is looked at whatever the target is.
-pub fn assignment_beyond(a: &[u8]) -> bool
+fn assignment_beyond(a: &[u8]) -> bool
     requires { Is assignment a.now }
     ensures { (v : Assignment) → Holds assignment a.now v → result ≡ Beyond (assignment_names v) }
 {
-    if target_beyond(image_update::target_of(a)) {
-        return true;
-    }
-    image_expression::names_beyond_ascii(image_update::value_of(a))
+    target_beyond(image_update::target_of(a)) || value_beyond(image_update::value_of(a))
 }
 
 pub fn update_beyond(u: &[u8]) -> bool
     requires { Is updating u.now }
     ensures { (v : Update) → Holds updating u.now v → result ≡ Beyond (held_by_update v).names }
 {
-    if table_beyond(image_update::table_of(u)) {
-        return true;
-    }
-    if list_beyond(image_update::assignments(u), Of::Assignments) {
-        return true;
-    }
-    condition_beyond(image_update::condition_of(u))
+    table_beyond(image_update::table_of(u))
+        || bytes_bundle::iter(image_update::assignments(u), 2).any(assignment_beyond)
+        || condition_beyond(image_update::condition_of(u))
 }

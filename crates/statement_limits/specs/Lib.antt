@@ -1,5 +1,5 @@
 pub mod Gathered
 pub mod Within
-pub mod Kinds
 pub mod Lists
+pub mod Joined
 pub mod Cases

@@ -24,8 +24,5 @@ pub fn is_delete_within(d: &[u8]) -> bool
     requires { Is deletion d.now }
     ensures { (v : Delete) → Holds deletion d.now v → result ≡ held_within (held_by_delete v) }
 {
-    if !is_from_within(image_delete::from_of(d)) {
-        return false;
-    }
-    is_condition_within(image_delete::condition_of(d))
+    is_from_within(image_delete::from_of(d)) && is_condition_within(image_delete::condition_of(d))
 }

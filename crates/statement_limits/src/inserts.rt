@@ -6,9 +6,9 @@ ghost use Rattle.rules.specs.Limits.{body_rows, held_by_insert, held_within};
 ghost use Rattle.image_parts.specs.Layout.{source_body, insertion};
 ghost use Rattle.statement_limits.specs.Within.{list_within, row_within, source_within};
 
-use crate::entries::{Lists, are_entries_within};
-use crate::leaves::{Leaves, are_leaves_within};
-use crate::names::is_object_name_within;
+use crate::entries::is_row_within;
+use crate::lists::is_list_within;
+use crate::names::{is_name_within, is_object_name_within};
 
 fn is_body_within(b: &[u8]) -> bool
     requires { Is source_body b.now }
@@ -17,7 +17,7 @@ fn is_body_within(b: &[u8]) -> bool
     if !image_insert::is_values(b) {
         return true;
     }
-    are_entries_within(image_insert::rows_of(b), Lists::Rows, 1024)
+    is_list_within(image_insert::rows_of(b), 1024, is_row_within)
 }
 
 fn is_source_within(i: &[u8]) -> bool
@@ -34,11 +34,7 @@ pub fn is_insert_within(i: &[u8]) -> bool
     requires { Is insertion i.now }
     ensures { (v : Insert) → Holds insertion i.now v → result ≡ held_within (held_by_insert v) }
 {
-    if !is_object_name_within(image_insert::table_name(i)) {
-        return false;
-    }
-    if !are_leaves_within(image_insert::columns(i), Leaves::Names) {
-        return false;
-    }
-    is_source_within(i)
+    is_object_name_within(image_insert::table_name(i))
+        && is_list_within(image_insert::columns(i), 64, is_name_within)
+        && is_source_within(i)
 }

@@ -6,7 +6,7 @@ mod deletes;
 mod entries;
 mod expressions;
 mod inserts;
-mod leaves;
+mod lists;
 mod names;
 mod selects;
 mod updates;

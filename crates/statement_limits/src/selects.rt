@@ -7,8 +7,9 @@ ghost use Rattle.rules.specs.Statements.{From, Select, QueryBody, Query};
 ghost use Rattle.rules.specs.Limits.{from_names, held_by_select, held_by_body, held_within};
 ghost use Rattle.image_parts.specs.Layout.{select_from, select, query_body, selection};
 
-use crate::entries::{Lists, are_entries_within};
+use crate::entries::is_item_within;
 use crate::expressions::is_condition_within;
+use crate::lists::is_list_within;
 use crate::names::is_table_within;
 
 fn is_from_within(f: &[u8]) -> bool
@@ -25,13 +26,9 @@ fn is_select_within(s: &[u8]) -> bool
     requires { Is select s.now }
     ensures { (v : Select) → Holds select s.now v → result ≡ held_within (held_by_select v) }
 {
-    if !is_from_within(image_select::from_of(s)) {
-        return false;
-    }
-    if !are_entries_within(image_select::items_of(s), Lists::Items, 64) {
-        return false;
-    }
-    is_condition_within(image_select::condition_of(s))
+    is_from_within(image_select::from_of(s))
+        && is_list_within(image_select::items_of(s), 64, is_item_within)
+        && is_condition_within(image_select::condition_of(s))
 }
 
 fn is_body_within(b: &[u8]) -> bool

@@ -1,50 +1,49 @@
--- `statement_ascii::creates::create_beyond` meets its contract. Behind a part with no such name, the others decide.
-use Rattle.statement_ascii.specs.Beyond.{Beyond, beyond_stop, beyond_on}
-use Rattle.bytes_bundle.specs.Held.{Holds, is_held, held}
+-- `statement_ascii::creates::create_beyond` meets its contract.
+use borrow.Author.Rules.{rules}
+use Rattle.std.specs.Prelude.{◌≡◌, ◌++◌, map}
+use Rattle.std.proofs.Common.{◌∙◌}
 use Rattle.bytes_format.proofs.Formats.{list_of}
+use Rattle.bytes_bundle.specs.Chains.{list_callable, list_looked}
+use Rattle.bytes_bundle.specs.Held.{is_held, held, list_bundle}
+use Rattle.image_parts.specs.Layout.{column_definition, constraint}
 use Rattle.rules.specs.Limits.{gather, object_names, constraint_names, held_by_create_table}
-use Rattle.rules.specs.Statements.{ColumnDefinition, CreateTable}
-use Rattle.image_parts.specs.Layout.{object_name, column_definition, constraint, create}
-use mathlib.Core.List.{◌++◌, map}
-use mathlib.Core.Path.{◌≡◌, sym, ◌∙◌}
-use Rattle.statement_ascii.proofs.creates.create_beyond.Goals.{After-object_name_beyond}
-use Rattle.statement_ascii.proofs.creates.create_beyond.Goals.{Else-object_name_beyond}
-use Rattle.statement_ascii.proofs.creates.create_beyond.Goals.{After-list_beyond}
-use Rattle.statement_ascii.proofs.creates.create_beyond.Goals.{Else-list_beyond}
-use Rattle.statement_ascii.proofs.creates.create_beyond.Goals.{After-nest_beyond}
+use Rattle.rules.specs.Statements.{ColumnDefinition}
+use Rattle.statement_ascii.specs.Beyond.{Beyond, or_stop, or_on, two_stop, two_on, gather_looks, map_looks}
+use Rattle.statement_ascii.proofs.creates.create_beyond.Goals.{then-object_name_beyond, else-object_name_beyond}
 use Rattle.statement_ascii.proofs.creates.create_beyond.Goals as goal
 
-told-1 : (c : After-object_name_beyond) (v : CreateTable) → Holds create c.args.c.now v → c.object_name_beyond.result ≡ Beyond (object_names v.name)
-told-1 c v h = c.object_name_beyond.ensures v.name (c.table_name.ensures v h)
+pub any-requires-clause-callable : goal.any-requires-clause-callable
+any-requires-clause-callable c =
+    list_callable column_definition 2 _ _ c.iter.ensures (held c.requires (λ v h. is_held {f = list_of 2 column_definition} (c.columns.ensures v h))) (λ x b q k. search rules) (λ x i. search rules)
 
-left-1 : (c : Else-object_name_beyond) (v : CreateTable) → Holds create c.args.c.now v → Beyond (held_by_create_table v).names ≡ Beyond (map (λ (d : ColumnDefinition). d.name) v.columns ++ gather constraint_names v.constraints)
+pub iter-requires-else-any : goal.iter-requires-else-any
+iter-requires-else-any c = (search rules, list_bundle constraint (held c.requires (λ v h. is_held {f = list_of 2 constraint} (c.constraints.ensures v h))))
+
+pub any-requires-else-any-clause-callable : goal.any-requires-else-any-clause-callable
+any-requires-else-any-clause-callable c =
+    list_callable constraint 2 _ _ c.iter-else-any.ensures (held c.requires (λ v h. is_held {f = list_of 2 constraint} (c.constraints.ensures v h))) (λ x b q k. search rules) (λ x i. search rules)
+
+pub returns-then-any : goal.returns-then-any
 unfolding held_by_create_table
-left-1 c v h = beyond_on (object_names v.name) (map (λ (d : ColumnDefinition). d.name) v.columns ++ gather constraint_names v.constraints) (sym (told-1 (goal.at.Else-object_name_beyond c).After-object_name_beyond v h) ∙ c.if-object_name_beyond.false)
+returns-then-any c = λ v h.
+    let first = c.object_name_beyond.ensures v.name (c.table_name.ensures v h) in
+    let both : c.if-object_name_beyond.value ≡ Beyond (object_names v.name ++ map (λ (d : ColumnDefinition). d.name) v.columns) = elim c.if-object_name_beyond.branch [
+      | then-object_name_beyond w ↦ w.value-is ∙ or_stop (object_names v.name) (map (λ (d : ColumnDefinition). d.name) v.columns) first w.if-object_name_beyond.true
+      | else-object_name_beyond w ↦
+          w.value-is ∙ or_on (object_names v.name) (map (λ (d : ColumnDefinition). d.name) v.columns) first w.if-object_name_beyond.false
+          (list_looked column_definition (map_looks (λ (d : ColumnDefinition). d.name)) 2 _ _ w.iter.ensures _ _ w.any.ensures.ran (λ x b q k. search rules) v.columns (w.columns.ensures v h))
+    ] in
+    two_stop (object_names v.name) (map (λ (d : ColumnDefinition). d.name) v.columns) (gather constraint_names v.constraints) both c.if-any.true
 
-told-2 : (c : After-list_beyond) (v : CreateTable) → Holds create c.args.c.now v → c.list_beyond.result ≡ Beyond (map (λ (d : ColumnDefinition). d.name) v.columns)
-told-2 c v h = c.list_beyond.ensures v.columns (c.columns.ensures v h)
-
-left-2 : (c : Else-list_beyond) (v : CreateTable) → Holds create c.args.c.now v → Beyond (held_by_create_table v).names ≡ Beyond (gather constraint_names v.constraints)
-left-2 c v h = left-1 (goal.at.Else-list_beyond c).Else-object_name_beyond v h ∙ beyond_on (map (λ (d : ColumnDefinition). d.name) v.columns) (gather constraint_names v.constraints) (sym (told-2 (goal.at.Else-list_beyond c).After-list_beyond v h) ∙ c.if-list_beyond.false)
-
-told-3 : (c : After-nest_beyond) (v : CreateTable) → Holds create c.args.c.now v → c.nest_beyond.result ≡ Beyond (gather constraint_names v.constraints)
-told-3 c v h = c.nest_beyond.ensures v.constraints (c.constraints.ensures v h)
-
-pub object_name_beyond-requires : goal.object_name_beyond-requires
-object_name_beyond-requires c = held c.requires (λ v h. is_held {f = object_name} (c.table_name.ensures v h))
-
-pub returns-then-object_name_beyond : goal.returns-then-object_name_beyond
+pub returns-else-any : goal.returns-else-any
 unfolding held_by_create_table
-returns-then-object_name_beyond c = λ v h. sym (beyond_stop (object_names v.name) (map (λ (d : ColumnDefinition). d.name) v.columns ++ gather constraint_names v.constraints) (sym (told-1 (goal.at.returns-then-object_name_beyond c).After-object_name_beyond v h) ∙ c.if-object_name_beyond.true))
-
-pub list_beyond-requires : goal.list_beyond-requires
-list_beyond-requires c = held c.requires (λ v h. is_held {f = list_of 2 column_definition} (c.columns.ensures v h))
-
-pub returns-then-list_beyond : goal.returns-then-list_beyond
-returns-then-list_beyond c = λ v h. sym (left-1 (goal.at.returns-then-list_beyond c).Else-object_name_beyond v h ∙ beyond_stop (map (λ (d : ColumnDefinition). d.name) v.columns) (gather constraint_names v.constraints) (sym (told-2 (goal.at.returns-then-list_beyond c).After-list_beyond v h) ∙ c.if-list_beyond.true))
-
-pub nest_beyond-requires : goal.nest_beyond-requires
-nest_beyond-requires c = held c.requires (λ v h. is_held {f = list_of 2 constraint} (c.constraints.ensures v h))
-
-pub returns : goal.returns
-returns c = λ v h. told-3 (goal.at.returns c).After-nest_beyond v h ∙ sym (left-2 (goal.at.returns c).Else-list_beyond v h)
+returns-else-any c = λ v h.
+    let first = c.object_name_beyond.ensures v.name (c.table_name.ensures v h) in
+    let both : c.if-object_name_beyond.value ≡ Beyond (object_names v.name ++ map (λ (d : ColumnDefinition). d.name) v.columns) = elim c.if-object_name_beyond.branch [
+      | then-object_name_beyond w ↦ w.value-is ∙ or_stop (object_names v.name) (map (λ (d : ColumnDefinition). d.name) v.columns) first w.if-object_name_beyond.true
+      | else-object_name_beyond w ↦
+          w.value-is ∙ or_on (object_names v.name) (map (λ (d : ColumnDefinition). d.name) v.columns) first w.if-object_name_beyond.false
+          (list_looked column_definition (map_looks (λ (d : ColumnDefinition). d.name)) 2 _ _ w.iter.ensures _ _ w.any.ensures.ran (λ x b q k. search rules) v.columns (w.columns.ensures v h))
+    ] in
+    two_on (object_names v.name) (map (λ (d : ColumnDefinition). d.name) v.columns) (gather constraint_names v.constraints) both c.if-any.false
+    (list_looked constraint (gather_looks constraint_names) 2 _ _ c.iter-else-any.ensures _ _ c.any-else-any.ensures.ran (λ x b q k. search rules) v.constraints (c.constraints.ensures v h))

@@ -24,8 +24,5 @@ inner c = condition_inside (λ v h. passed (c.has_condition.ensures v h) (ap not
 pub returns-then-not-has_condition : goal.returns-then-not-has_condition
 returns-then-not-has_condition c = λ v h. sym (ap beyond (no_condition v (failed (c.has_condition.ensures v h) (ap not c.if-not-has_condition.true))))
 
-pub names_beyond_ascii-requires : goal.names_beyond_ascii-requires
-names_beyond_ascii-requires c = let i = inside_is (inner (goal.at.names_beyond_ascii-requires c).Else-not-has_condition) c.requires in record { reads = i.there }
-
 pub returns : goal.returns
-returns c = inside_says (inner (goal.at.returns c).Else-not-has_condition) beyond (λ e h. c.names_beyond_ascii.ensures e h ∙ sym (ap Beyond (append-nil (expression_names e))))
+returns c = inside_says (inner (goal.at.returns c).Else-not-has_condition) beyond (λ e h. c.value_beyond.ensures e h ∙ sym (ap Beyond (append-nil (expression_names e))))

@@ -3,9 +3,12 @@ use Rattle.bytes_bundle.specs.Decides.{failed, passed}
 use Rattle.bytes_bundle.specs.Looks.{Inside, inside_is, inside_says}
 use Rattle.bytes_format.proofs.Formats.{list_of}
 use Rattle.image_expression.specs.Names.{Within}
+use Rattle.bytes_bundle.specs.Held.{list_bundle}
+use Rattle.statement_limits.specs.Lists.{list_takes, list_told}
 use Rattle.statement_limits.specs.Cases.{no_key, key_inside}
 use Rattle.statement_limits.specs.Within.{list_within, constraint_within}
 use Rattle.image_parts.specs.Layout.{name, constraint}
+use borrow.Author.Rules.{rules}
 use mathlib.Core.Bool.{Bool}
 use mathlib.Core.Path.{refl, sym, ap}
 use Rattle.statement_limits.proofs.entries.is_constraint_within.Goals.{After-key_names}
@@ -23,8 +26,11 @@ returns-then-not-is_primary_key c = λ v h. sym (ap constraint_within (no_key v 
 pub key_names-requires : goal.key_names-requires
 key_names-requires c = record { there = c.requires.there; case = λ v h. passed (c.is_primary_key.ensures v h) (ap not c.if-not-is_primary_key.false) }
 
-pub are_leaves_within-requires : goal.are_leaves_within-requires
-are_leaves_within-requires c = inside_is (inner (goal.at.are_leaves_within-requires c).After-key_names) c.requires
+pub is_list_within-requires-clause-bundle : goal.is_list_within-requires-clause-bundle
+is_list_within-requires-clause-bundle c = list_bundle name (inside_is (inner (goal.at.is_list_within-requires-clause-bundle c).After-key_names) c.requires)
+
+pub is_list_within-requires-clause-takes : goal.is_list_within-requires-clause-takes
+is_list_within-requires-clause-takes c = list_takes name _ (inside_is (inner (goal.at.is_list_within-requires-clause-takes c).After-key_names) c.requires) (λ x i. search rules)
 
 pub returns : goal.returns
-returns c = inside_says (inner (goal.at.returns c).After-key_names) (λ (b : Bool). b) c.are_leaves_within.ensures
+returns c = inside_says (inner (goal.at.returns c).After-key_names) (λ (b : Bool). b) (list_told name Within 64 _ c.is_list_within.ensures (λ x b k v h. search rules))

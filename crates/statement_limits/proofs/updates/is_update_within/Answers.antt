@@ -1,58 +1,39 @@
--- `statement_limits::updates::is_update_within` meets its contract. Behind each test, those that are left decide.
-use Prim.Native.Nat.{ℕ}
-use Rattle.bytes_bundle.specs.Decides.{Decides, stop, on, last, failed, passed}
-use Rattle.bytes_bundle.specs.Held.{Holds, is_held, held}
+-- `statement_limits::updates::is_update_within` meets its contract.
+use borrow.Author.Rules.{rules}
+use Rattle.std.specs.Prelude.{◌≡◌, ◌&&◌}
+use Rattle.std.proofs.Common.{◌∙◌}
+use Rattle.bytes_bundle.specs.Held.{is_held, held}
 use Rattle.bytes_format.proofs.Formats.{list_of}
 use Rattle.image_expression.specs.Names.{Within}
-use Rattle.statement_limits.specs.Within.{list_within, assignment_within, condition_within, update_tests, update_within}
-use Rattle.rules.specs.Limits.{table_names, held_by_update, held_within}
+use Rattle.image_parts.specs.Layout.{assignment}
+use Rattle.rules.specs.Limits.{table_names}
 use Rattle.rules.specs.Lists.{all}
-use Rattle.rules.specs.Statements.{Update}
-use Rattle.image_parts.specs.Layout.{table_with_joins, condition, assignment, updating}
-use lib.ListN.{drop}
-use mathlib.Core.Path.{◌≡◌}
-use Rattle.statement_limits.proofs.updates.is_update_within.Goals.{After-is_table_within}
-use Rattle.statement_limits.proofs.updates.is_update_within.Goals.{Else-not-is_table_within}
-use Rattle.statement_limits.proofs.updates.is_update_within.Goals.{After-are_entries_within}
-use Rattle.statement_limits.proofs.updates.is_update_within.Goals.{Else-not-are_entries_within}
-use Rattle.statement_limits.proofs.updates.is_update_within.Goals.{After-is_condition_within}
-use Rattle.std.proofs.Common.{ap}
-use Rattle.std.proofs.Common.{not}
+use Rattle.statement_limits.specs.Joined.{and_on, and_off, decided_on, decided_off, paired}
+use Rattle.statement_limits.specs.Lists.{list_takes, list_told}
+use Rattle.statement_limits.specs.Within.{list_within, assignment_within, update_within}
+use Rattle.statement_limits.proofs.updates.is_update_within.Goals.{then-is_table_within, else-is_table_within}
 use Rattle.statement_limits.proofs.updates.is_update_within.Goals as goal
 
--- the tests but the first k
-abbrev Left : ℕ → Update → Type 0
-Left k v = Decides (held_within (held_by_update v)) (drop k (update_tests v))
+pub is_list_within-requires-clause-takes : goal.is_list_within-requires-clause-takes
+is_list_within-requires-clause-takes c = list_takes assignment _ (held c.requires (λ v h. is_held {f = list_of 2 assignment} (c.assignments.ensures v h))) (λ x i. search rules)
 
-told-1 : (c : After-is_table_within) (v : Update) → Holds updating c.args.u.now v → c.is_table_within.result ≡ all Within (table_names v.table)
-told-1 c v h = c.is_table_within.ensures v.table (c.table_of.ensures v h)
+pub returns-then-is_list_within : goal.returns-then-is_list_within
+returns-then-is_list_within c = λ v h.
+    let first = c.is_table_within.ensures v.table (c.table_of.ensures v h) in
+    let both : c.if-is_table_within.value ≡ (all Within (table_names v.table) && list_within 64 assignment_within v.assignments) = elim c.if-is_table_within.branch [
+      | then-is_table_within w ↦
+          w.value-is ∙ and_on first w.if-is_table_within.true (list_told assignment assignment_within 64 _ w.is_list_within.ensures (λ x b k u i. search rules) v.assignments (w.assignments.ensures v h))
+      | else-is_table_within w ↦ w.value-is ∙ and_off first (list_within 64 assignment_within v.assignments) w.if-is_table_within.false
+    ] in
+    decided_on both (paired (update_within v)) c.if-is_list_within.true
+    (c.is_condition_within.ensures v.condition (c.condition_of.ensures v h))
 
-left-1 : (c : Else-not-is_table_within) (v : Update) → Holds updating c.args.u.now v → Left 1 v
-left-1 c v h = on (update_within v) (passed (told-1 (goal.at.Else-not-is_table_within c).After-is_table_within v h) (ap not c.if-not-is_table_within.false))
-
-told-2 : (c : After-are_entries_within) (v : Update) → Holds updating c.args.u.now v → c.are_entries_within.result ≡ list_within 64 assignment_within v.assignments
-told-2 c v h = c.are_entries_within.ensures v.assignments (c.assignments.ensures v h)
-
-left-2 : (c : Else-not-are_entries_within) (v : Update) → Holds updating c.args.u.now v → Left 2 v
-left-2 c v h = on (left-1 (goal.at.Else-not-are_entries_within c).Else-not-is_table_within v h) (passed (told-2 (goal.at.Else-not-are_entries_within c).After-are_entries_within v h) (ap not c.if-not-are_entries_within.false))
-
-told-3 : (c : After-is_condition_within) (v : Update) → Holds updating c.args.u.now v → c.is_condition_within.result ≡ condition_within v.condition
-told-3 c v h = c.is_condition_within.ensures v.condition (c.condition_of.ensures v h)
-
-pub is_table_within-requires : goal.is_table_within-requires
-is_table_within-requires c = held c.requires (λ v h. is_held {f = table_with_joins} (c.table_of.ensures v h))
-
-pub returns-then-not-is_table_within : goal.returns-then-not-is_table_within
-returns-then-not-is_table_within c = λ v h. stop (update_within v) (failed (told-1 (goal.at.returns-then-not-is_table_within c).After-is_table_within v h) (ap not c.if-not-is_table_within.true))
-
-pub are_entries_within-requires : goal.are_entries_within-requires
-are_entries_within-requires c = held c.requires (λ v h. is_held {f = list_of 2 assignment} (c.assignments.ensures v h))
-
-pub returns-then-not-are_entries_within : goal.returns-then-not-are_entries_within
-returns-then-not-are_entries_within c = λ v h. stop (left-1 (goal.at.returns-then-not-are_entries_within c).Else-not-is_table_within v h) (failed (told-2 (goal.at.returns-then-not-are_entries_within c).After-are_entries_within v h) (ap not c.if-not-are_entries_within.true))
-
-pub is_condition_within-requires : goal.is_condition_within-requires
-is_condition_within-requires c = held c.requires (λ v h. is_held {f = condition} (c.condition_of.ensures v h))
-
-pub returns : goal.returns
-returns c = λ v h. last (left-2 (goal.at.returns c).Else-not-are_entries_within v h) (told-3 (goal.at.returns c).After-is_condition_within v h)
+pub returns-else-is_list_within : goal.returns-else-is_list_within
+returns-else-is_list_within c = λ v h.
+    let first = c.is_table_within.ensures v.table (c.table_of.ensures v h) in
+    let both : c.if-is_table_within.value ≡ (all Within (table_names v.table) && list_within 64 assignment_within v.assignments) = elim c.if-is_table_within.branch [
+      | then-is_table_within w ↦
+          w.value-is ∙ and_on first w.if-is_table_within.true (list_told assignment assignment_within 64 _ w.is_list_within.ensures (λ x b k u i. search rules) v.assignments (w.assignments.ensures v h))
+      | else-is_table_within w ↦ w.value-is ∙ and_off first (list_within 64 assignment_within v.assignments) w.if-is_table_within.false
+    ] in
+    decided_off both (paired (update_within v)) c.if-is_list_within.false
