@@ -65,6 +65,7 @@ pub fn is_expression(s: &[u8]) -> bool
 
 // Whether the tree whose root is node i is at most `budget` nodes deep (a leaf is 1). It calls itself at most `budget` deep, whatever the tree;
 // an operand on the left takes no call.
+// kept: a turn moves the node by spans of the image and the budget by one, so that neither a range nor a chain tells the turns.
 pub fn depth_at_most(s: &[u8], i: usize, budget: usize) -> bool
     requires { HasNode s.now i }
     ensures { (e : Expr) → Root (node_at s.now) i e → result ≡ leb (depth e) budget }

@@ -1,23 +1,23 @@
 -- Whether bytes are a row that obeys a table: value by value, beside the columns.
 -- Assumes nothing.
-use Rattle.std.specs.Prelude.{◌≡◌, Bool, cond, ◌&&◌, ℕ, suc, ◌+◌, ◌-◌, ◌≤◌, ◌<◌, length, take, drop, ℤ}
+use Rattle.std.specs.Prelude.{◌≡◌, Bool, ◌⊎◌, cond, ◌&&◌, ℕ, suc, ◌<◌, length, ℤ}
 use Rattle.std.proofs.Math.Path.{refl, ap}
-use Rattle.std.proofs.Common.{sym, ◌∙◌, arith, drop_of_length-le, drop-cons, eq-eqb, ne_eqb}
+use Rattle.std.proofs.Common.{sym, inl, inr, ◌∙◌, arith, eq-eqb, ne_eqb}
 use Rattle.std.proofs.Math.Bool.{true, false, and-true, and-false}
 use Rattle.std.proofs.lemmas.Bool.{false≢true, eqb-false}
 use Rattle.std.proofs.Math.Option.{Option, none, some}
 use mathlib.Core.List.{List, [], ◌∷◌}
-use Rattle.std.proofs.Math.Numerals.{add-one}
 use Rattle.std.proofs.Math.Dec.{eqb}
 use Rattle.bytes_wire.specs.Le.{Bytes}
 use Rattle.bytes_format.specs.Ways.{next, each_join}
-use Rattle.bytes_format.proofs.Formats.{pieces, each}
-use Rattle.bytes_bundle.specs.Bundle.{is_there, parts_of, IsBundle, is_record, Stepped}
+use Rattle.bytes_format.proofs.Formats.{list_of, pieces, each}
+use Rattle.bytes_bundle.specs.Bundle.{is_there, parts_of, IsBundle, is_record}
+use Rattle.bytes_bundle.specs.Ahead.{Ahead, ahead, ahead_on, ahead_stop, ahead_end}
 use Rattle.bytes_bundle.specs.Decides.{and_of}
 use Rattle.bytes_bundle.specs.Fields.{passing, not_passing}
 use Rattle.bytes_bundle.specs.Held.{Holds, Is, is_held, held, held_once, list_bundle_by}
 use Rattle.bytes_bundle.specs.Laws.{bundle_read, list_not, Each, list_values}
-use Rattle.image_value.specs.Parts.{data_type_no, value}
+use Rattle.image_value.specs.Parts.{data_type_no, value, column_schema}
 use Rattle.image_value.specs.Values.{type_code, int_ranged}
 use Rattle.rules.specs.declared.DataType.{DataType}
 use Rattle.rules.specs.declared.DataType.TheVariants as data-type
@@ -137,21 +137,36 @@ module _ (cs : List ColumnSchema) (s : List ℕ) where
       go true h k = obeyed_is (record { there = h }) ∙ other_count cs (parts_of 4 s) (eqb-false (length (parts_of 4 s)) (length cs) k)
       go false h k = not_passing (columns_obeyed cs) (row.read s) (list_not 4 value s h)
 
--- a loop over both: the part that it has reached, beside the column
-module _ {s : List ℕ} {i at e : ℕ} (d : Stepped 4 s i at e) (c : ColumnSchema) (cs : List ColumnSchema) where
-  beside : parts_obeyed (c ∷ cs) (drop i (parts_of 4 s)) ≡ (value_obeyed c (take (e - at) (drop at s)) && parts_obeyed cs (drop (i + 1) (parts_of 4 s)))
+-- a loop over both: the parts ps are left, beside the columns that are held by qs
+pub record Beside (s list : List ℕ) (ps qs : List (List ℕ)) : Type 0 where
+  pub many : length ps ≡ length qs
+  pub left : Ahead (column_schema 2) list (λ cs. parts_obeyed cs (parts_of 4 s)) qs (λ cs. parts_obeyed cs ps)
+
+pub beside : {s list : List ℕ} {ps qs : List (List ℕ)} → ps ≡ parts_of 4 s → qs ≡ parts_of 2 list → length (parts_of 4 s) ≡ length (parts_of 2 list) → Beside s list ps qs
+beside e f h = record { many = ap length e ∙ h ∙ sym (ap length f); left = rw e (ahead f) }
+
+no_more : (ps : List (List ℕ)) → length ps ≡ 0 → ps ≡ []
+no_more [] h = refl
+no_more (p ∷ ps) h = absurd (omega (arith, h))
+
+module _ {s list : List ℕ} {ps qs : List (List ℕ)} (b : Beside s list ps qs) where
+  module _ {p q : List ℕ} {ps' qs' : List (List ℕ)} (e : ps ≡ p ∷ ps') (f : qs ≡ q ∷ qs') where
+    first : (k : Bool) → ((v : ColumnSchema) → Holds (column_schema 2) q v → value_obeyed v p ≡ k)
+        → (v : ColumnSchema) (l : List ColumnSchema) → Holds (column_schema 2) q v → parts_obeyed (v ∷ l) ps ≡ (k && parts_obeyed l ps')
+    unfolding parts_obeyed
+    first k t v l h = ap (parts_obeyed (v ∷ l)) e ∙ ap (λ (x : Bool). x && parts_obeyed l ps') (t v h)
+
+    pub beside_on : ((v : ColumnSchema) → Holds (column_schema 2) q v → value_obeyed v p ≡ true) → Beside s list ps' qs'
+    beside_on t = record { many = omega (arith, b.many, ap length e, ap length f); left = ahead_on b.left f (first true t) }
+
+    pub beside_stop : ((v : ColumnSchema) → Holds (column_schema 2) q v → value_obeyed v p ≡ false)
+        → (cs : List ColumnSchema) → Holds (list_of 2 (column_schema 2)) list cs → parts_obeyed cs (parts_of 4 s) ≡ false
+    beside_stop t = ahead_stop b.left f (first false t)
+
+  pub beside_end : (ps ≡ []) ⊎ (qs ≡ []) → (cs : List ColumnSchema) → Holds (list_of 2 (column_schema 2)) list cs → parts_obeyed cs (parts_of 4 s) ≡ true
   unfolding parts_obeyed
-  beside = rw (drop-cons (parts_of 4 s) i [] (omega (arith, d.next.few)), add-one i, d.is)
-
-  pub obeyed_stop : value_obeyed c (take (e - at) (drop at s)) ≡ false → parts_obeyed (c ∷ cs) (drop i (parts_of 4 s)) ≡ false
-  obeyed_stop f = beside ∙ ap (λ (b : Bool). b && parts_obeyed cs (drop (i + 1) (parts_of 4 s))) f
-
-  pub obeyed_on : value_obeyed c (take (e - at) (drop at s)) ≡ true → parts_obeyed (c ∷ cs) (drop i (parts_of 4 s)) ≡ parts_obeyed cs (drop (i + 1) (parts_of 4 s))
-  obeyed_on f = beside ∙ ap (λ (b : Bool). b && parts_obeyed cs (drop (i + 1) (parts_of 4 s))) f
-
-pub obeyed_end : (l : List (List ℕ)) (n : ℕ) → length l ≤ n → parts_obeyed [] (drop n l) ≡ true
-unfolding parts_obeyed
-obeyed_end l n h = rw (drop_of_length-le l {i = n} h)
+  beside_end (inl e) cs h = ahead_end b.left (no_more qs (sym b.many ∙ ap length e)) cs h ∙ ap (parts_obeyed []) e
+  beside_end (inr f) cs h = ahead_end b.left f cs h ∙ ap (parts_obeyed []) (no_more ps (b.many ∙ ap length f))
 
 -- ---- a value by its position
 

@@ -14,23 +14,13 @@ pub fn values_obey(r: &[u8], list: &[u8]) -> bool
     requires { Is (list_of 2 (column_schema 2)) list.now }
     ensures { (cs : List ColumnSchema) → Holds (list_of 2 (column_schema 2)) list.now cs → result ≡ values_obeyed cs (row.read r.now) }
 {
-    let mut left = bytes_bundle::parts(list, 2);
-    if !bytes_bundle::is_record(r, 4, left) {
+    if !bytes_bundle::is_record(r, 4, bytes_bundle::parts(list, 2)) {
         return false;
     }
-    let mut at = bytes_bundle::first(r, 4);
-    let mut from = bytes_bundle::first(list, 2);
-    let mut i = 0;
-    while 0 < left {
-        let end = bytes_bundle::next(r, 4, i, at);
-        let to = bytes_bundle::next(list, 2, i, from);
-        if !value_obeys(&r[at..end], &list[from..to]) {
+    for (value, column) in bytes_bundle::iter(r, 4).zip(bytes_bundle::iter(list, 2)) {
+        if !value_obeys(value, column) {
             return false;
         }
-        at = end;
-        from = to;
-        i += 1;
-        left -= 1;
     }
     true
 }

@@ -1,5 +1,5 @@
 -- `image_bound::bundles::put_id_bodies` meets its contract. The invariant: what is left of the bodies, written, gives all of them.
-use Rattle.std.proofs.Common.{rules, arith, length, drop, length-drop, drop_of_length-le}
+use Rattle.std.proofs.Common.{arith, drop, length-drop, drop_of_length-le}
 use Rattle.bytes_format.proofs.Formats.{alone}
 use Rattle.image_value.specs.Parts.{column_id}
 use Rattle.image_bound.specs.Bundles.{bodies, bodies_next}
