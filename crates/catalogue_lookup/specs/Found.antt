@@ -1,6 +1,6 @@
 -- `find` of an iterator over a list, by the values that its parts hold.
 -- Assumes nothing.
-use Rattle.std.specs.Prelude.{◌≡◌, refl, Bool, true, false, List, [], ◌∷◌, ℕ, Option as Maybe, Some, None, IfSome}
+use Rattle.std.specs.Prelude.{◌≡◌, Bool, true, false, List, [], ◌∷◌, ℕ, Option as Maybe, Some, None, IfSome}
 use Rattle.std.specs.Fn.{CalledAt, TakesAt}
 use Rattle.std.specs.List.{FoldsTo}
 use Rattle.std.specs.Iterator.{YieldsFirstRef, Yields, YieldsThen, CallableAtEachTurn}

@@ -94,7 +94,7 @@ fn has_id(s: &[u8], id: ColumnId) -> bool
     requires { Is (list_of 2 (alone column_id)) s.now }
     ensures { (vs : List ColumnId) → Holds (list_of 2 (alone column_id)) s.now vs → result ≡ any (same_id id) vs }
 {
-    bytes_bundle::iter(s, 2).any(|p| id.0 == image_catalogue::key_id(p).0)
+    bytes_bundle::iter(s, 2).any(|p| id == image_catalogue::key_id(p))
 }
 
 // Whether a column of this id is part of the key.
