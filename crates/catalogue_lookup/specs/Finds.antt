@@ -5,11 +5,9 @@ use Rattle.std.specs.Borrow.{Bor}
 use Rattle.std.proofs.Common.{sym, ◌∙◌, add-one, arith, drop_of_length-le}
 use Rattle.std.proofs.Math.Path.{ap}
 use Rattle.std.proofs.Math.Option.{Option, none, some}
-use Rattle.bytes_wire.specs.Le.{Bytes}
-use Rattle.bytes_format.proofs.Formats.{list_of, pieces}
-use Rattle.bytes_bundle.specs.Bundle.{or_nil, parts_of, IsBundle}
+use Rattle.bytes_format.proofs.Formats.{list_of}
+use Rattle.bytes_bundle.specs.Bundle.{parts_of}
 use Rattle.bytes_bundle.specs.Held.{Holds, Left, left, list_count}
-use Rattle.bytes_bundle.specs.Laws.{some_there}
 use Rattle.bytes_bundle.specs.Numbered.{IsPart, valued}
 use Rattle.image_value.specs.Parts.{column_schema}
 use Rattle.image_catalogue.specs.Layout.{table}
@@ -101,11 +99,6 @@ among_is v name (Some r) s =
 among_is v name None s = s v
 
 -- ---- a loop that counts the columns
-
--- the parts of a bundle are counted in 2 bytes
-pub few_parts : {s : List ℕ} → Bytes s → IsBundle 2 s → length (parts_of 2 s) ≤ 65535
-unfolding parts_of
-few_parts {s} b i = some_there ((pieces 2).read s) i.there (λ l e. omega (arith, ap (λ (o : Option (List (List ℕ))). length (or_nil o)) e, ((pieces 2).back s l b e).1.0))
 
 -- what the columns that are left decide, by the number of the first of them
 pub record BoundLeft (s : List ℕ) (name : Text) (i : ℕ) : Type 0 where

@@ -25,7 +25,7 @@ fn alike(a: &[u8], b: &[u8], by: By) -> bool
             image_catalogue::entry_name(b),
         ),
         By::Id => image_catalogue::entry_id(a) == image_catalogue::entry_id(b),
-        By::Whole => image_catalogue::key_id(a).0 == image_catalogue::key_id(b).0,
+        By::Whole => image_catalogue::key_id(a) == image_catalogue::key_id(b),
     }
 }
 
@@ -34,22 +34,13 @@ fn first_repeat(s: &[u8], by: By) -> Option<usize>
     requires { IsBundle 2 s.now × AllTold by s.now }
     ensures { result ≡ first_repeated (alike_by by) 0 (parts_of 2 s.now) }
 {
-    let n = bytes_bundle::parts(s, 2);
-    let mut at = bytes_bundle::first(s, 2);
+    let mut entries = bytes_bundle::iter(s, 2);
     let mut i = 0;
-    while i < n {
-        let end = bytes_bundle::next(s, 2, i, at);
-        let mut from = end;
-        let mut j = i + 1;
-        while j < n {
-            let to = bytes_bundle::next(s, 2, j, from);
-            if alike(&s[at..end], &s[from..to], by) {
-                return Some(i);
-            }
-            from = to;
-            j += 1;
+    while let Some(entry) = entries.next() {
+        let mut later = entries;
+        if later.any(|e| alike(entry, e, by)) {
+            return Some(i);
         }
-        at = end;
         i += 1;
     }
     None

@@ -4,8 +4,8 @@ use Rattle.std.proofs.Common.{inl, arith, ap, ◌∙◌}
 use Rattle.bytes_bundle.specs.Bundle.{parts_of}
 use Rattle.bytes_bundle.specs.Held.{Holds, list_bundle}
 use Rattle.bytes_bundle.specs.Left.{parts_left}
-use Rattle.bytes_bundle.specs.Numbered.{reached, reached_part, reached_on, reached_end, valued_is}
-use Rattle.catalogue_lookup.specs.Finds.{few_parts, bound_left, bound_on, bound_found, bound_end}
+use Rattle.bytes_bundle.specs.Numbered.{few_parts, reached, reached_part, reached_on, reached_end, valued_is}
+use Rattle.catalogue_lookup.specs.Finds.{bound_left, bound_on, bound_found, bound_end}
 use Rattle.image_value.specs.Parts.{column_schema}
 use Rattle.rules.specs.Lists.{same}
 use Rattle.rules.specs.Tables.{ColumnSchema}
