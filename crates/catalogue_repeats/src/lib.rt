@@ -7,6 +7,7 @@ ghost use Rattle.rules.specs.Lists.{distinct};
 ghost use Rattle.catalogue_repeats.specs.Repeats.{Told, AllTold, alike_by, first_repeated};
 
 // What tells two entries of a list apart: the name of a table or a column, its id, or an id that stands for itself.
+// kept: a closure at each of the callers' five places would spell the same three comparisons again, and what each needs of the entries.
 #[derive(Clone, Copy)]
 pub enum By {
     Name,
@@ -35,6 +36,7 @@ fn first_repeat(s: &[u8], by: By) -> Option<usize>
     ensures { result ≡ first_repeated (alike_by by) 0 (parts_of 2 s.now) }
 {
     let mut entries = bytes_bundle::iter(s, 2);
+    // kept: the later entries are a copy of the iterator, and `Enumerate`, which would count them, can't be copied
     let mut i = 0;
     while let Some(entry) = entries.next() {
         let mut later = entries;
