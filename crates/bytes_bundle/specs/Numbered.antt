@@ -1,12 +1,19 @@
 -- A loop over the parts of a bundle that counts them: the number of the part that it has reached, and no byte's position.
 -- Assumes nothing.
-use Rattle.std.specs.Prelude.{◌≡◌, refl, List, [], ◌∷◌, ℕ, suc, ◌+◌, ◌≤◌, ◌<◌, length, drop, get_or}
+use Rattle.std.specs.Prelude.{◌≡◌, refl, List, [], ◌∷◌, ℕ, suc, ◌+◌, ◌^◌, ◌≤◌, ◌<◌, length, drop, get_or}
 use Rattle.std.proofs.Common.{sym, ap, ◌∙◌, add-one, arith, length-drop, drop-cons}
 use Rattle.bytes_format.specs.Format.{Format}
-use Rattle.bytes_format.proofs.Formats.{list_of}
-use Rattle.bytes_bundle.specs.Bundle.{parts_of}
-use Rattle.bytes_bundle.specs.Laws.{Each, list_values}
+use Rattle.std.proofs.Math.Option.{Option}
+use Rattle.bytes_wire.specs.Le.{Bytes}
+use Rattle.bytes_format.proofs.Formats.{list_of, pieces}
+use Rattle.bytes_bundle.specs.Bundle.{or_nil, parts_of, IsBundle}
+use Rattle.bytes_bundle.specs.Laws.{some_there, Each, list_values}
 use Rattle.bytes_bundle.specs.Held.{Is, Holds, is_held, held}
+
+-- the parts are counted in w bytes
+pub few_parts : {w : ℕ} {s : List ℕ} → Bytes s → IsBundle w s → length (parts_of w s) < 256 ^ w
+unfolding parts_of
+few_parts {w} {s} b i = some_there ((pieces w).read s) i.there (λ l e. omega (arith, ap (λ (o : Option (List (List ℕ))). length (or_nil o)) e, ((pieces w).back s l b e).1.0))
 
 -- part i of s is p
 pub record IsPart (w : ℕ) (s : List ℕ) (i : ℕ) (p : List ℕ) : Type 0 where

@@ -1,12 +1,14 @@
 -- What a lookup answers, by the answer of the rules.
 -- Assumes nothing.
-use Rattle.std.specs.Prelude.{◌≡◌, true, false, List, ◌∷◌, ℕ, suc, ◌+◌, Option as Maybe, Some, None}
+use Rattle.std.specs.Prelude.{◌≡◌, Bool, true, false, List, ◌∷◌, ℕ, suc, ◌+◌, ◌≤◌, length, drop, Option as Maybe, Some, None}
 use Rattle.std.specs.Borrow.{Bor}
-use Rattle.std.proofs.Common.{sym, ◌∙◌, add-one}
+use Rattle.std.proofs.Common.{sym, ◌∙◌, add-one, arith, drop_of_length-le}
 use Rattle.std.proofs.Math.Path.{ap}
 use Rattle.std.proofs.Math.Option.{Option, none, some}
 use Rattle.bytes_format.proofs.Formats.{list_of}
-use Rattle.bytes_bundle.specs.Held.{Holds}
+use Rattle.bytes_bundle.specs.Bundle.{parts_of}
+use Rattle.bytes_bundle.specs.Held.{Holds, Left, left, list_count}
+use Rattle.bytes_bundle.specs.Numbered.{IsPart, valued}
 use Rattle.image_value.specs.Parts.{column_schema}
 use Rattle.image_catalogue.specs.Layout.{table}
 use Rattle.image_catalogue.specs.Entries.{find_hit, find_miss}
@@ -95,3 +97,41 @@ among_is v name (Some r) s =
     let c = s.read in
     (bound_column v s.number s.value, s.bound v, record { id = c.id; ordinal = c.ordinal; ty = c.ty; nullable = c.nullable; name = c.name })
 among_is v name None s = s v
+
+-- ---- a loop that counts the columns
+
+-- what the columns that are left decide, by the number of the first of them
+pub record BoundLeft (s : List ℕ) (name : Text) (i : ℕ) : Type 0 where
+  pub left : (t : TableSchema) → Left (column_schema 2) (λ k cs. bound_from name t k cs) s i
+
+pub bound_left : {s : List ℕ} {name : Text} → BoundLeft s name 0
+bound_left = record { left = λ t. left }
+
+module _ {s : List ℕ} {name : Text} {i : ℕ} {p : List ℕ} (w : BoundLeft s name i) (d : IsPart 2 s i p) {r : Bool}
+    (says : (v : ColumnSchema) → Holds (column_schema 2) p v → r ≡ same name v.name) where
+  -- the column at hand has another name, or is the first of the name
+  pub bound_on : r ≡ false → BoundLeft s name (i + 1)
+  bound_on e = record {
+    left = λ t. record {
+      is = λ cs h.
+          let v = valued (column_schema 2) d h in
+          (w.left t).is cs h ∙ ap (bound_from name t i) v.rest ∙ bound_miss name t i v.value (drop (i + 1) cs) (sym (says v.value v.holds) ∙ e);
+    };
+  }
+
+  pub bound_found : {c : Column} → r ≡ true → ReadsColumn p i c → Stands s name (Some c)
+  bound_found e k cs h =
+      let v = valued (column_schema 2) d h in
+      record {
+        number = i;
+        value = v.value;
+        read = k v.value v.holds;
+        bound = λ t. (w.left t).is cs h ∙ ap (bound_from name t i) v.rest ∙ bound_hit name t i v.value (drop (i + 1) cs) (sym (says v.value v.holds) ∙ e);
+      }
+
+-- no column is left
+pub bound_end : {s : List ℕ} {name : Text} {i : ℕ} → BoundLeft s name i → length (parts_of 2 s) ≤ i → Stands s name None
+unfolding bound_columns_from
+bound_end {s} {name} {i} w l cs h t =
+    let z : length cs ≤ i = omega (arith, list_count (column_schema 2) s h) in
+    (w.left t).is cs h ∙ ap (bound_from name t i) (drop_of_length-le cs {i = i} z)

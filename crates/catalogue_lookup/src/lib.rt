@@ -21,19 +21,7 @@ fn table_called<'a>(c: &'a [u8], name: &[u8]) -> Option<&'a [u8]>
     requires { Is (list_of 2 table) c.now }
     ensures { FindsTable c.now name.now result }
 {
-    let n = bytes_bundle::parts(c, 2);
-    let mut at = bytes_bundle::first(c, 2);
-    let mut i = 0;
-    while i < n {
-        let end = bytes_bundle::next(c, 2, i, at);
-        let table = &c[at..end];
-        if text_names::same(name, image_catalogue::table_name(table)) {
-            return Some(table);
-        }
-        at = end;
-        i += 1;
-    }
-    None
+    bytes_bundle::iter(c, 2).find(|t| text_names::same(name, image_catalogue::table_name(t)))
 }
 
 // The table that a name of the statement stands for: its bytes in the catalogue. The name is folded once, and not for each table.
@@ -75,17 +63,10 @@ fn column_called<'a>(s: &'a [u8], name: &[u8]) -> Option<Column<'a>>
     requires { Is (list_of 2 (column_schema 2)) s.now }
     ensures { Stands s.now name.now result }
 {
-    let n = bytes_bundle::parts(s, 2);
-    let mut at = bytes_bundle::first(s, 2);
-    let mut i = 0;
-    while i < n {
-        let end = bytes_bundle::next(s, 2, i, at);
-        let column = &s[at..end];
+    for (i, column) in bytes_bundle::iter(s, 2).enumerate() {
         if text_names::same(name, image_catalogue::column_name(column)) {
             return Some(read_column(column, i));
         }
-        at = end;
-        i += 1;
     }
     None
 }
@@ -113,7 +94,7 @@ fn has_id(s: &[u8], id: ColumnId) -> bool
     requires { Is (list_of 2 (alone column_id)) s.now }
     ensures { (vs : List ColumnId) → Holds (list_of 2 (alone column_id)) s.now vs → result ≡ any (same_id id) vs }
 {
-    bytes_bundle::iter(s, 2).any(|p| id.0 == image_catalogue::key_id(p).0)
+    bytes_bundle::iter(s, 2).any(|p| id == image_catalogue::key_id(p))
 }
 
 // Whether a column of this id is part of the key.

@@ -1,25 +1,34 @@
 -- The first entry that a later one repeats, of any kind of entry; and entries of an image by the bytes that tell them apart.
 -- Assumes nothing.
-use Rattle.std.specs.Prelude.{◌≡◌, Bool, ◌&&◌, ◌||◌, ℕ, zero, suc, ◌+◌, ◌-◌, ◌≤◌, ◌<◌, eqb, length, get_or, take, drop, Option, Some, None, is_none}
+use Rattle.std.specs.Prelude.{◌≡◌, Bool, ◌&&◌, ◌||◌, ℕ, zero, suc, ◌+◌, ◌<◌, eqb, length, get_or, Option, Some, None, is_none}
 use Rattle.std.proofs.Math.Path.{refl, ap}
-use Rattle.std.proofs.Common.{sym, ap₂, ◌∙◌, subst, add-one, arith, drop_of_length-le, drop-cons}
+use Rattle.std.proofs.Common.{sym, ap₂, ◌∙◌, subst, arith}
 use Rattle.std.proofs.Math.Option.{some, some-injective}
 use Rattle.std.proofs.Math.Bool.{true, false, not, cond}
 use mathlib.Core.List.{List, [], ◌∷◌}
-use Rattle.bytes_format.specs.Format.{Format}
+use Rattle.std.specs.Fn.{Called, Takes}
+use Rattle.std.specs.List.{FoldsTo, list_any}
+use Rattle.std.specs.Iterator.{YieldsFirstRef, Yields, CallableAtEachTurn}
+use Rattle.std.proofs.lemmas.Iterator.Consumers.{YieldsList-from_first}
+use Rattle.std.proofs.lemmas.Iterator.Search.{any_from_yields_List}
+use denote.Param.Members.{Mut}
+use denote.Ref.{Bor}
+use Rattle.bytes_format.specs.Format.{Format, Every}
 use Rattle.bytes_format.specs.Ways.{next, each_join}
 use Rattle.bytes_format.proofs.Laws.{next_some}
 use Rattle.bytes_format.proofs.Formats.{alone, each, list_of}
-use Rattle.bytes_bundle.specs.Bundle.{parts_of, Stepped}
+use Rattle.bytes_bundle.specs.declared.parts_iter.Parts.{Parts}
+use Rattle.bytes_bundle.specs.Left.{parts_left}
+use Rattle.bytes_bundle.specs.Chains.{Stops}
+use Rattle.bytes_bundle.specs.Bundle.{parts_of}
 use Rattle.bytes_bundle.specs.Laws.{bundle_value}
 use Rattle.image_value.specs.Parts.{column_id}
 use Rattle.rules.specs.Lists.{same, any, distinct}
 use Rattle.rules.specs.Tables.{same_id}
 use Rattle.catalogue_repeats.specs.declared.By.{By}
 use Rattle.catalogue_repeats.specs.declared.By.TheVariants as by
-use Rattle.bytes_bundle.specs.Held.{Holds, Is, is_held, held, Along}
+use Rattle.bytes_bundle.specs.Held.{Holds, Is, is_held, held}
 use Rattle.image_catalogue.specs.Values.{id_of, name_of, id_number, HasName, HasNumbers}
-use Rattle.image_catalogue.specs.Entries.{any_hit, any_miss}
 
 -- ---- the first repeat
 
@@ -37,9 +46,9 @@ module _ {A : Type 0} (alike : A → A → Bool) where
   unfolding first_repeated
   repeat_pass i x l e = ap (λ (b : Bool). cond b (Some i) (first_repeated (i + 1) l)) e
 
-  pub repeat_end : (i : ℕ) (l : List A) → length l ≤ i → first_repeated i (drop i l) ≡ None
+  pub repeat_end : (i : ℕ) → first_repeated i [] ≡ None
   unfolding first_repeated
-  repeat_end i l h = ap (first_repeated i) (drop_of_length-le l {i = i} h)
+  repeat_end i = refl
 
   -- no place is found where no two are alike
   pub nowhere_is : (i : ℕ) (l : List A) → is_none (first_repeated i l) ≡ distinct alike l
@@ -68,12 +77,7 @@ Told by.Whole s = Is (alone column_id) s
 pub record AllTold (b : By) (s : List ℕ) : Type 0 where
   pub at : (i : ℕ) → i < length (parts_of 2 s) → Told b (get_or (parts_of 2 s) i [])
 
--- ---- parts, one behind the other
-
-pub step_cons : {s : List ℕ} {i at e : ℕ} → Stepped 2 s i at e → drop i (parts_of 2 s) ≡ take (e - at) (drop at s) ∷ drop (i + 1) (parts_of 2 s)
-step_cons {s} {i} {at} {e} d =
-    drop-cons (parts_of 2 s) i [] (omega (arith, d.next.few))
-    ∙ ap₂ (λ (x : List ℕ) (k : ℕ). x ∷ drop k (parts_of 2 s)) (sym d.is) (sym (add-one i))
+-- ---- parts and their values
 
 -- a value for each part
 abbrev pub Pairs : {A : Type 0} → Format A → List (List ℕ) → List A → Type 0
@@ -120,17 +124,42 @@ module _ {A : Type 0} (f : Format A) where
   pub all_told : (b : By) → ((p : List ℕ) → Is f p → Told b p) → (s : List ℕ) → Is (list_of 2 f) s → AllTold b s
   all_told b g s k = held k (λ vs h. record { at = λ i l. pairs_told b g (parts_of 2 s) vs i (pairs s h) l })
 
-module _ {b : By} {s : List ℕ} {i at e : ℕ} (d : Stepped 2 s i at e) where
-  pub told_part : AllTold b s → Told b (take (e - at) (drop at s))
-  told_part r = subst (Told b) (sym d.is) (r.at i (omega (arith, d.next.few)))
+-- ---- a loop over the entries that are left
 
--- some later part
-module _ (t : List ℕ → Bool) {s : List ℕ} {j at e : ℕ} (d : Stepped 2 s j at e) where
-  pub any_found : t (take (e - at) (drop at s)) ≡ true → any t (drop j (parts_of 2 s)) ≡ true
-  any_found h = ap (any t) (step_cons d) ∙ any_hit t (take (e - at) (drop at s)) (drop (j + 1) (parts_of 2 s)) h
+-- each of some parts can be told apart
+pub record EachTold (b : By) (ps : List (List ℕ)) : Type 0 where
+  pub at : Every (Told b) ps
 
-  pub any_on : t (take (e - at) (drop at s)) ≡ false → any t (drop j (parts_of 2 s)) ≡ any t (drop (j + 1) (parts_of 2 s))
-  any_on h = ap (any t) (step_cons d) ∙ any_miss t (take (e - at) (drop at s)) (drop (j + 1) (parts_of 2 s)) h
+pub told_first : {b : By} {p : List ℕ} {ps qs : List (List ℕ)} → EachTold b ps → ps ≡ p ∷ qs → Told b p × EachTold b qs
+told_first {b} {p} {ps} {qs} k e = let d : EachTold b (p ∷ qs) = rw e at k in (d.at.0, record { at = d.at.1 })
 
-pub any_over : (t : List ℕ → Bool) {s : List ℕ} {n j at : ℕ} → Along s n j at → n ≤ j → any t (drop j (parts_of 2 s)) ≡ false
-any_over t {s} {n} {j} a h = ap (any t) (drop_of_length-le (parts_of 2 s) {i = j} (omega (arith, a.count)))
+each_told : (b : By) (ps : List (List ℕ)) → ((i : ℕ) → i < length ps → Told b (get_or ps i [])) → Every (Told b) ps
+each_told b [] k = tt
+each_told b (p ∷ ps) k = (k 0 (omega arith), each_told b ps (λ i h. k (suc i) (omega (arith, h))))
+
+pub told_each : {b : By} {s : List ℕ} {ps : List (List ℕ)} → ps ≡ parts_of 2 s → AllTold b s → EachTold b ps
+told_each {b} {s} e k = record { at = rw e (each_told b (parts_of 2 s) k.at) }
+
+module _ {F : Type 0} {g : Mut F (Bor (List ℕ) × Unit {0}) Bool} {h : F} (keeps : (x : Bor (List ℕ)) (b : Bool) (q : F) → Called g h (x, tt) b q → q ≡ h) where
+  told_lem : (b : By) (p : Parts) → Every (Told b) (parts_left p) → (xs : List (Bor (List ℕ))) (q : Parts) (j : F) (x : Bor (List ℕ)) (u : Parts)
+      → Yields (YieldsFirstRef parts_left) p xs q → FoldsTo (λ p x q. Called g p (x, tt) false q) h xs j → parts_left q ≡ x.now ∷ parts_left u → Told b x.now × (j ≡ h)
+  told_lem b p e [] q j x u y c m =
+      let d : Every (Told b) (x.now ∷ parts_left u) = rw (ap parts_left y ∙ m) at e in
+      (d.0, sym c)
+  told_lem b p e (a ∷ xs) q j x u y c m =
+      let d : Every (Told b) (a.now ∷ parts_left y.0) = rw y.1 at e in
+      told_lem b y.0 d.1 xs q j x u y.2 (rw (keeps a false c.0 c.1) at c.2) m
+
+  -- h may be called at each entry that is left, where it may be called at one that can be told apart
+  pub told_callable : (b : By) (p : Parts) → EachTold b (parts_left p) → ((x : Bor (List ℕ)) → Told b x.now → Takes g h (x, tt))
+      → CallableAtEachTurn (YieldsFirstRef parts_left) (λ p x q. Called g p (x, tt) false q) (λ p x. Takes g p (x, tt)) p h
+  told_callable b p e a = record { at = λ xs q j x u y c m. let d = told_lem b p e.at xs q j x u y c m in rw d.1 (a x d.0) }
+
+any_same : (t : List ℕ → Bool) (l : List (List ℕ)) → list_any t l ≡ any t l
+any_same t [] = refl
+any_same t (p ∷ l) = ap (λ (b : Bool). t p || b) (any_same t l)
+
+-- whether some entry that is left passes a test
+pub any_left : {F : Type 0} {g : Mut F (Bor (List ℕ) × Unit {0}) Bool} {h : F} (t : List ℕ → Bool) (p u : Parts) (r : Bool) → Stops g false p h r u
+    → ((x : Bor (List ℕ)) (b : Bool) (q : F) → Called g h (x, tt) b q → (q ≡ h) × (b ≡ t x.now)) → r ≡ any t (parts_left p)
+any_left {h = h} t p u r a says = any_from_yields_List t u h r a (YieldsList-from_first (λ x. x.now) parts_left (parts_left p) refl) says ∙ any_same t (parts_left p)

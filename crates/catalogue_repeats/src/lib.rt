@@ -7,6 +7,7 @@ ghost use Rattle.rules.specs.Lists.{distinct};
 ghost use Rattle.catalogue_repeats.specs.Repeats.{Told, AllTold, alike_by, first_repeated};
 
 // What tells two entries of a list apart: the name of a table or a column, its id, or an id that stands for itself.
+// kept: a closure at each of the callers' five places would spell the same three comparisons again, and what each needs of the entries.
 #[derive(Clone, Copy)]
 pub enum By {
     Name,
@@ -25,36 +26,26 @@ fn alike(a: &[u8], b: &[u8], by: By) -> bool
             image_catalogue::entry_name(b),
         ),
         By::Id => image_catalogue::entry_id(a) == image_catalogue::entry_id(b),
-        By::Whole => image_catalogue::key_id(a).0 == image_catalogue::key_id(b).0,
+        By::Whole => image_catalogue::key_id(a) == image_catalogue::key_id(b),
     }
 }
 
-// The first entry that a later one repeats: both loops are left at once.
+// The first entry that a later one repeats.
 fn first_repeat(s: &[u8], by: By) -> Option<usize>
     requires { IsBundle 2 s.now × AllTold by s.now }
     ensures { result ≡ first_repeated (alike_by by) 0 (parts_of 2 s.now) }
 {
-    let n = bytes_bundle::parts(s, 2);
-    let mut place = None;
-    let mut at = bytes_bundle::first(s, 2);
+    let mut entries = bytes_bundle::iter(s, 2);
+    // kept: the later entries are a copy of the iterator, and `Enumerate`, which would count them, can't be copied
     let mut i = 0;
-    'search: while i < n {
-        let end = bytes_bundle::next(s, 2, i, at);
-        let mut from = end;
-        let mut j = i + 1;
-        while j < n {
-            let to = bytes_bundle::next(s, 2, j, from);
-            if alike(&s[at..end], &s[from..to], by) {
-                place = Some(i);
-                break 'search;
-            }
-            from = to;
-            j += 1;
+    while let Some(entry) = entries.next() {
+        let mut later = entries;
+        if later.any(|e| alike(entry, e, by)) {
+            return Some(i);
         }
-        at = end;
         i += 1;
     }
-    place
+    None
 }
 
 // Whether no two entries are alike.

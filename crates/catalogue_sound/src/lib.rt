@@ -20,10 +20,7 @@ fn is_numbered(c: &[u8]) -> bool
     requires { Is (column_schema 2) c.now }
     ensures { (v : ColumnSchema) → Holds (column_schema 2) c.now v → result ≡ has_id v }
 {
-    if image_catalogue::column_id(c).0 == 0 {
-        return false;
-    }
-    true
+    image_catalogue::column_id(c).0 != 0
 }
 
 fn are_numbered(s: &[u8]) -> bool
@@ -38,10 +35,7 @@ fn fits_key(c: &[u8], id: ColumnId) -> bool
     requires { Is (column_schema 2) c.now }
     ensures { (v : ColumnSchema) → Holds (column_schema 2) c.now v → result ≡ key_column id v }
 {
-    if image_catalogue::column_id(c).0 != id.0 {
-        return false;
-    }
-    !image_catalogue::column_nullable(c)
+    image_catalogue::column_id(c) == id && !image_catalogue::column_nullable(c)
 }
 
 fn is_key_column(s: &[u8], id: ColumnId) -> bool

@@ -47,4 +47,4 @@ returns-in-Whole c =
     let e = c.in-Whole.is in
     let p : Is (alone column_id) c.args.a.now = subst (λ (x : By). Told x c.args.a.now) e c.requires.0 in
     let q : Is (alone column_id) c.args.b.now = subst (λ (x : By). Told x c.args.b.now) e c.requires.1 in
-    ap₂ same_id (spelt p c.key_id.ensures) (spelt q c.key_id-in-Whole.ensures) ∙ sym (ap (λ (x : By). alike_by x c.args.a.now c.args.b.now) e)
+    c.eq.ensures ∙ ap₂ same_id (spelt p c.key_id.ensures) (spelt q c.key_id-in-Whole.ensures) ∙ sym (ap (λ (x : By). alike_by x c.args.a.now c.args.b.now) e)

@@ -1,61 +1,43 @@
--- `catalogue_repeats::first_repeat` meets its contract. The invariants: the first repeat is the first among the entries that are left; no entry passed by the inner loop is like the one at hand.
-use Prim.Native.Nat.{ℕ, ◌+◌, ◌-◌, ◌≤◌}
-use Rattle.bytes_bundle.specs.Bundle.{parts_of}
-use Rattle.bytes_bundle.specs.Held.{along_on}
-use Rattle.catalogue_repeats.specs.Repeats.{alike_by, first_repeated, repeat_hit, repeat_pass, repeat_end, step_cons, told_part, any_found, any_on, any_over}
+-- `catalogue_repeats::first_repeat` meets its contract. The invariant: the first repeat is the first among the entries that are left.
 use borrow.Author.Rules.{rules}
-use lib.ListN.{length, take, drop}
-use mathlib.Core.Bool.{Bool}
-use mathlib.Core.List.{List}
-use mathlib.Core.Path.{refl, sym, ap, ◌∙◌}
-use native.Mathlib.Omega.{arith}
-use Rattle.catalogue_repeats.proofs.first_repeat.Goals.{After-next-end}
+use Rattle.std.proofs.Common.{arith, sym, ap, ◌∙◌}
+use Rattle.bytes_bundle.specs.Left.{parts_left}
+use Rattle.bytes_bundle.specs.Numbered.{few_parts, reached, reached_part, reached_on}
+use Rattle.catalogue_repeats.specs.Repeats.{alike_by, first_repeated, repeat_hit, repeat_pass, repeat_end, told_each, told_first, told_callable, any_left}
 use Rattle.catalogue_repeats.proofs.first_repeat.Goals as goal
 
-pub search-init : goal.search-init
-search-init c = (record { bundle = c.requires.0; count = c.parts-n.ensures; here = c.first-at.ensures }, refl, refl)
+pub loop-entry-init : goal.loop-entry-init
+loop-entry-init c = (reached c.iter-entries.ensures, told_each c.iter-entries.ensures c.requires.1, ap (first_repeated (alike_by c.args.by) 0) (sym c.iter-entries.ensures))
 
-pub loop-j-init : goal.loop-j-init
-loop-j-init c = (along_on c.search.invariant.0 c.next-end.ensures, search rules, c.search.invariant.1, refl)
+pub any-requires-clause-callable : goal.any-requires-clause-callable
+any-requires-clause-callable c =
+    let d = told_first c.loop-entry.invariant.1 c.in-Some.ensures.steps in
+    told_callable (λ x b q k. search rules) c.args.by c.next.new.self d.1 (λ x i. let h = d.0 in search rules)
 
-pub next-to-requires : goal.next-to-requires
-next-to-requires c = let a = c.loop-j.invariant.0 in (search rules, a.bundle, a.here, omega (arith, a.count, c.loop-j-test.true))
+pub returns-then-any : goal.returns-then-any
+returns-then-any c =
+    let e = c.in-Some.entry.now in
+    let found = any_left (alike_by c.args.by e) c.next.new.self _ _ c.any.ensures.ran (λ x b q k. search rules) in
+    sym (c.loop-entry.invariant.2 ∙ ap (first_repeated (alike_by c.args.by) c.loop-entry.i) c.in-Some.ensures.steps
+    ∙ repeat_hit (alike_by c.args.by) c.loop-entry.i e (parts_left c.next.new.self) (sym found ∙ c.if-any.true))
 
-pub alike-requires : goal.alike-requires
-alike-requires c = (told_part c.next-end.ensures c.requires.1, told_part c.next-to.ensures c.requires.1)
+pub overflow_add-i : goal.overflow_add-i
+overflow_add-i c =
+    let d = reached_part c.loop-entry.invariant.0 c.in-Some.ensures.steps in
+    omega (arith, d.few, few_parts (record { at = λ j. (c.type_inv.s j).fits }) c.requires.0)
 
--- the entry at hand, and what it is compared with
-abbrev entry : (c : After-next-end) → List ℕ
-entry c = take (c.next-end.result - c.search.at) (drop c.search.at c.args.s.now)
-
-abbrev like : (c : After-next-end) → List ℕ → Bool
-like c = alike_by c.args.by (entry c)
-
-abbrev rest : (c : After-next-end) → List (List ℕ)
-rest c = drop (c.search.i + 1) (parts_of 2 c.args.s.now)
-
-pub loop-j-preserved : goal.loop-j-preserved
-loop-j-preserved c =
-    let d = c.next-to.ensures in
-    (along_on c.loop-j.invariant.0 d, search rules, c.loop-j.invariant.2, c.loop-j.invariant.3 ∙ any_on (like (goal.at.loop-j-preserved c).After-next-end) d (sym c.alike.ensures ∙ c.if-alike.false))
-
-pub search-preserved : goal.search-preserved
-search-preserved c =
-    let by = c.args.by in (
-      along_on c.search.invariant.0 c.next-end.ensures,
-      c.loop-j.invariant.2,
-      c.search.invariant.2 ∙ ap (first_repeated (alike_by by) c.search.i) (step_cons c.next-end.ensures)
-          ∙ repeat_pass (alike_by by) c.search.i (entry (goal.at.search-preserved c).After-next-end) (rest (goal.at.search-preserved c).After-next-end) (c.loop-j.invariant.3 ∙ any_over (like (goal.at.search-preserved c).After-next-end) c.loop-j.invariant.0 c.loop-j-test.false),
+pub loop-entry-preserved : goal.loop-entry-preserved
+loop-entry-preserved c =
+    let a = c.loop-entry.invariant in
+    let s = c.in-Some.ensures.steps in
+    let e = c.in-Some.entry.now in
+    let found = any_left (alike_by c.args.by e) c.next.new.self _ _ c.any.ensures.ran (λ x b q k. search rules) in (
+      reached_on a.0 s,
+      (told_first a.1 s).1,
+      a.2 ∙ ap (first_repeated (alike_by c.args.by) c.loop-entry.i) s
+          ∙ repeat_pass (alike_by c.args.by) c.loop-entry.i e (parts_left c.next.new.self) (sym found ∙ c.if-any.false),
     )
 
-pub returns-after-search : goal.returns-after-search
-returns-after-search c =
-    let a = c.args in
-    let z : length (parts_of 2 a.s.now) ≤ c.search.i = omega (arith, c.search.invariant.0.count, c.search-test.false) in
-    c.search.invariant.1 ∙ sym (c.search.invariant.2 ∙ repeat_end (alike_by a.by) c.search.i (parts_of 2 a.s.now) z)
-
-pub returns-then-alike : goal.returns-then-alike
-returns-then-alike c =
-    let by = c.args.by in
-    sym (c.search.invariant.2 ∙ ap (first_repeated (alike_by by) c.search.i) (step_cons c.next-end.ensures)
-    ∙ repeat_hit (alike_by by) c.search.i (entry (goal.at.returns-then-alike c).After-next-end) (rest (goal.at.returns-then-alike c).After-next-end) (c.loop-j.invariant.3 ∙ any_found (like (goal.at.returns-then-alike c).After-next-end) c.next-to.ensures (sym c.alike.ensures ∙ c.if-alike.true)))
+pub returns : goal.returns
+returns c =
+    sym (c.loop-entry.invariant.2 ∙ ap (first_repeated (alike_by c.args.by) c.loop-entry.i) c.in_default.ensures.steps.0 ∙ repeat_end (alike_by c.args.by) c.loop-entry.i)
