@@ -94,7 +94,6 @@ fn are_alike(a: &[u8], b: &[u8]) -> bool
 }
 
 // The first entry that repeats an earlier one: both loops are left at once.
-// kept: nested loops left by a label are a form that the project is to have here (docs/PROVED.md, "Which form to use where").
 pub fn first_repeated(s: &[u8], of: Of) -> Option<usize>
     requires { AllShort of s.now }
     ensures { FindsRepeat of s.now result }
