@@ -12,6 +12,7 @@ use Rattle.bytes_bundle.specs.Numbered.{IsPart, valued}
 use Rattle.image_value.specs.Parts.{column_schema}
 use Rattle.image_catalogue.specs.Layout.{table}
 use Rattle.image_catalogue.specs.Entries.{find_hit, find_miss}
+use Rattle.catalogue_lookup.specs.Found.{PartIs}
 use Rattle.rules.specs.declared.Ordinal.{Ordinal}
 use Rattle.rules.specs.Lists.{Text, same, find}
 use Rattle.rules.specs.Tables.{ColumnSchema, TableSchema, Catalogue, table_by_name}
@@ -23,8 +24,7 @@ use Rattle.catalogue_lookup.specs.declared.Column.{Column}
 
 -- the table's bytes, where there is one
 abbrev pub TableIs : Option TableSchema → Maybe (Bor (List ℕ)) → Type 0
-TableIs o (Some p) = (t : TableSchema) × (o ≡ some t) × Holds table p.now t
-TableIs o None = o ≡ none
+TableIs = PartIs table
 
 abbrev pub FindsTable : List ℕ → Text → Maybe (Bor (List ℕ)) → Type 0
 FindsTable s name r = (ts : Catalogue) → Holds (list_of 2 table) s ts → TableIs (table_by_name ts name) r
