@@ -15,7 +15,6 @@ use Rattle.bytes_bundle.specs.Decides.{and_of}
 use Rattle.bytes_bundle.specs.Held.{Is, Holds, is_held, held, held_once, list_count}
 use Rattle.bytes_bundle.specs.Ahead.{HoldEach, FirstHeld, hold_first, list_holds}
 use Rattle.bytes_bundle.specs.Numbered.{IsPart, valued, valued_is}
-use Rattle.image_value.specs.Parts.{column_schema}
 use Rattle.image_catalogue.specs.Layout.{table}
 use Rattle.catalogue_lookup.specs.declared.Column.{Column}
 use Rattle.catalogue_lookup.specs.Finds.{ColumnIs, FindsColumn}

@@ -1,6 +1,6 @@
 -- `bind_create::column_called` meets its contract. The invariant: the name finds among the columns that are left what it finds among all of them.
 use borrow.Author.Rules.{rules}
-use Prim.Native.Nat.{ℕ, ◌+◌}
+use Prim.Native.Nat.{◌+◌}
 use mathlib.Core.Path.{◌≡◌, sym, ap, ◌∙◌}
 use mathlib.Core.Option.{some}
 use lib.ListN.{drop}

@@ -1,7 +1,7 @@
 -- `bind_create::columns_len` meets its contract. The invariant: what was added up and what is left make the whole.
 use borrow.Author.Rules.{rules}
 use Prim.Native.Nat.{◌≤◌}
-use mathlib.Core.Path.{◌≡◌, ap, ◌∙◌}
+use mathlib.Core.Path.{◌≡◌, ap}
 use lib.ListN.{length}
 use native.Mathlib.Omega.{arith}
 use Rattle.bytes_bundle.specs.Bundle.{parts_of}
