@@ -125,6 +125,10 @@ module _ (repeated second : Bool) (c : ColumnDefinition) where
 pub judged_at : (i : ℕ) (key : Key) {r : Result Key Class} {a b : Bool} (c : ColumnDefinition) → r ≡ inlined i key (judge_column a (has_key key) c) → a ≡ b → r ≡ inlined i key (judge_column b (has_key key) c)
 judged_at i key c e h = e ∙ ap (λ (x : Bool). inlined i key (judge_column x (has_key key) c)) h
 
+-- the same of another way to say the number
+pub inlined_here : {i j : ℕ} (key : Key) {r : Result Key Class} (a : Bool) (c : ColumnDefinition) → i ≡ j → r ≡ inlined i key (judge_column a (has_key key) c) → r ≡ inlined j key (judge_column a (has_key key) c)
+inlined_here key a c e h = h ∙ ap (λ (i : ℕ). inlined i key (judge_column a (has_key key) c)) e
+
 -- what was judged, by what the code makes of it
 pub inlined_off : (i : ℕ) (key : Key) {r : Result Key Class} {k : Class} (a : Answer Bool) → r ≡ inlined i key a → r ≡ Err k → a ≡ refuse k
 inlined_off i key {r} {k} a e h = go a (sym h ∙ e)

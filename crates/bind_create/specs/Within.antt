@@ -1,6 +1,6 @@
 -- A CREATE TABLE within the limits: its names are short, its lists are short.
 -- Assumes nothing.
-use Rattle.std.specs.Prelude.{◌≡◌, refl, Bool, ◌&&◌, List, [], ◌∷◌, ◌++◌, map, ℕ, zero, suc, ◌≤◌, drop, Option as Maybe}
+use Rattle.std.specs.Prelude.{◌≡◌, refl, Bool, ◌&&◌, List, [], ◌∷◌, ◌++◌, map, ℕ, zero, suc, ◌+◌, ◌≤◌, drop, Option as Maybe}
 use Rattle.std.proofs.Common.{sym, ap, ap₂, ◌∙◌, subst, arith}
 use Rattle.std.proofs.Math.Bool.{true}
 use Rattle.std.proofs.Math.Option.{Option}
@@ -10,6 +10,8 @@ use Rattle.bytes_format.proofs.Formats.{list_of}
 use Rattle.bytes_bundle.specs.Bundle.{parts_of}
 use Rattle.bytes_bundle.specs.Decides.{and_of}
 use Rattle.bytes_bundle.specs.Held.{Holds, Is, held, held_once, is_held, list_count}
+use Rattle.bytes_bundle.specs.Ahead.{HoldEach, FirstHeld, hold_first, list_holds}
+use Rattle.bytes_bundle.specs.Numbered.{IsPart, valued, valued_is}
 use Rattle.image_expression.specs.Names.{Within}
 use Rattle.rules.specs.Lists.{Text, all}
 use Rattle.rules.specs.Limits.{gather, object_names, constraint_names, key_lists, held_by_create_table, at_most, held_within}
@@ -17,7 +19,9 @@ use Rattle.rules.specs.Statements.{Name, ColumnDefinition, Constraint, primary_k
 use Rattle.image_parts.specs.Layout.{name, object_name, column_definition, create}
 use Rattle.bind_repeats.specs.declared.Of.TheVariants as of
 use Rattle.bind_repeats.specs.Repeats.{first_repeated}
-use Rattle.bind_repeats.specs.Entries.{AllShort, entry}
+use Rattle.bind_repeats.specs.declared.Of.{Of}
+use Rattle.bind_repeats.specs.Entries.{Entry, form, name_in, short_name, ShortIn, AllShort, entry}
+use Rattle.bind_repeats.specs.Short.{all_turn}
 use Rattle.bind_table.specs.Short.{ShortName, all_front, all_back, held_within_lem, create_short, short_name_lem}
 use Rattle.bind_create.specs.declared.Key.{Key}
 use Rattle.bind_create.specs.Keys.{KeyAt}
@@ -119,3 +123,41 @@ few_names {s} {p} {v} j {m} {ns} {rest} w h here k = record {
   };
   few = omega (arith, names_few v (w.within v h) j here, list_count name p k);
 }
+
+-- ---- the names of parts
+
+-- the name of part i is short
+pub short_at : {o : Of} {s p : List ℕ} {i : ℕ} → AllShort o s → IsPart 2 s i p → ShortIn (form o) (name_in o) p
+short_at {o} {i = i} a d = record {
+  is = valued_is (form o) d a.is;
+  short = λ v h. held a.is (λ vs k.
+      let t = valued (form o) d k in
+      all_turn (λ w. short_name (name_in o w)) i vs v (drop (i + 1) vs) (a.short vs k) (t.rest ∙ ap (λ (w : Entry o). w ∷ drop (i + 1) vs) (held_once (form o) t.holds h)));
+}
+
+-- parts that hold columns whose names are short
+pub record ColumnsLeft (ps : List (List ℕ)) : Type 0 where
+  pub columns : List ColumnDefinition
+  pub each : HoldEach column_definition ps columns
+  pub short : all (λ (d : ColumnDefinition). Within d.name) columns ≡ true
+
+pub columns_left : {s : List ℕ} {ps : List (List ℕ)} → AllShort of.Columns s → ps ≡ parts_of 2 s → ColumnsLeft ps
+columns_left {s} a e = held a.is (λ cs h. let k = list_holds 2 column_definition s h in record { columns = cs; each = rw e k; short = a.short cs h })
+
+module _ {p : List ℕ} {ps qs : List (List ℕ)} (l : ColumnsLeft ps) (e : ps ≡ p ∷ qs) where
+  first : FirstHeld column_definition p qs l.columns
+  first = hold_first (rw e at l.each)
+
+  both : (Within first.value.name ≡ true) × (all (λ (d : ColumnDefinition). Within d.name) first.others ≡ true)
+  both =
+      and_of (Within first.value.name) (all (λ (d : ColumnDefinition). Within d.name) first.others)
+      (ap (all (λ (d : ColumnDefinition). Within d.name)) (sym first.is) ∙ l.short)
+
+  pub column_here : ShortIn column_definition (name_in of.Columns) p
+  column_here = record {
+    is = is_held {f = column_definition} first.holds;
+    short = λ d h. ap (λ (d : ColumnDefinition). Within d.name) (held_once column_definition h first.holds) ∙ both.0;
+  }
+
+  pub columns_behind : ColumnsLeft qs
+  columns_behind = record { columns = first.others; each = first.each; short = both.1 }

@@ -123,15 +123,9 @@ fn define_columns(s: &[u8], place: Option<usize>) -> Result<Key, Class>
     requires { Is (list_of 2 column_definition) s.now × FindsRepeat of.Columns s.now place }
     ensures { (cs : List ColumnDefinition) → Holds (list_of 2 column_definition) s.now cs → ReadsColumns cs result }
 {
-    let columns = bytes_bundle::parts(s, 2);
     let mut key = Key::Nowhere;
-    let mut at = bytes_bundle::first(s, 2);
-    let mut i = 0;
-    while i < columns {
-        let end = bytes_bundle::next(s, 2, i, at);
-        key = define_column(&s[at..end], i, key, is_at(place, i))?;
-        at = end;
-        i += 1;
+    for (i, column) in bytes_bundle::iter(s, 2).enumerate() {
+        key = define_column(column, i, key, is_at(place, i))?;
     }
     Ok(key)
 }
@@ -162,15 +156,9 @@ fn register_all(s: &[u8], before: Key) -> Result<Key, Class>
     ensures { (cs : List ColumnDefinition) (ds : List Constraint) (names : Option (List Text)) → Holds (list_of 2 constraint) s.now ds
         → KeyAt cs ds before names → ReadsConstraints cs ds names result }
 {
-    let n = bytes_bundle::parts(s, 2);
     let mut key = before;
-    let mut at = bytes_bundle::first(s, 2);
-    let mut j = 0;
-    while j < n {
-        let end = bytes_bundle::next(s, 2, j, at);
-        key = register(&s[at..end], j, key)?;
-        at = end;
-        j += 1;
+    for (j, c) in bytes_bundle::iter(s, 2).enumerate() {
+        key = register(c, j, key)?;
     }
     Ok(key)
 }
@@ -192,16 +180,10 @@ pub fn column_called(s: &[u8], n: &[u8]) -> Option<usize>
     ensures { (cs : List ColumnDefinition) (w : Name) → Holds (list_of 2 column_definition) s.now cs → Holds name n.now w
         → FindsColumn cs (canonical w) result }
 {
-    let count = bytes_bundle::parts(s, 2);
-    let mut at = bytes_bundle::first(s, 2);
-    let mut i = 0;
-    while i < count {
-        let end = bytes_bundle::next(s, 2, i, at);
-        if are_alike_names(n, image_create::column_name(&s[at..end])) {
+    for (i, d) in bytes_bundle::iter(s, 2).enumerate() {
+        if are_alike_names(n, image_create::column_name(d)) {
             return Some(i);
         }
-        at = end;
-        i += 1;
     }
     None
 }
@@ -213,21 +195,15 @@ fn count_names(columns: &[u8], names: &[u8]) -> Result<usize, Refusal>
         → Holds (list_of 2 name) names.now ns → result ≡ counted (key_ids (schemas 0 cs) [] (map canonical ns)) }
 {
     let place = bind_repeats::first_repeated(names, Of::Names);
-    let n = bytes_bundle::parts(names, 2);
-    let mut at = bytes_bundle::first(names, 2);
-    let mut k = 0;
-    while k < n {
-        let end = bytes_bundle::next(names, 2, k, at);
-        column_called(columns, &names[at..end]).ok_or(Class::SchemaMismatch)?;
+    for (k, part) in bytes_bundle::iter(names, 2).enumerate() {
+        column_called(columns, part).ok_or(Class::SchemaMismatch)?;
         if is_at(place, k) {
             return Err(Refusal {
                 class: Class::ConstraintViolation,
             });
         }
-        at = end;
-        k += 1;
     }
-    Ok(n)
+    Ok(bytes_bundle::parts(names, 2))
 }
 
 fn count_key(s: &[u8], key: Key) -> Result<usize, Refusal>
@@ -254,16 +230,10 @@ fn columns_len(s: &[u8]) -> usize
     requires { FewColumns s.now }
     ensures { ((cs : List ColumnDefinition) → Holds (list_of 2 column_definition) s.now cs → result ≡ room_for cs) × (result ≤ 16384) }
 {
-    let n = bytes_bundle::parts(s, 2);
     let mut sum = 4;
-    let mut at = bytes_bundle::first(s, 2);
-    let mut i = 0;
-    while i < n {
-        let end = bytes_bundle::next(s, 2, i, at);
-        let text = name_text(image_create::column_name(&s[at..end]));
+    for column in bytes_bundle::iter(s, 2) {
+        let text = name_text(image_create::column_name(column));
         sum += 4 + column_schema_len(text.len());
-        at = end;
-        i += 1;
     }
     sum
 }

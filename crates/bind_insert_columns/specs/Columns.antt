@@ -12,12 +12,13 @@ use Rattle.bytes_format.specs.Format.{Format}
 use Rattle.bytes_format.proofs.Formats.{list_of}
 use Rattle.bytes_bundle.specs.Bundle.{parts_of, Stepped}
 use Rattle.bytes_bundle.specs.Decides.{and_of}
-use Rattle.bytes_bundle.specs.Held.{Is, Holds, is_held, Along, turn, part_is, held, held_once, list_count, Left, left, left_on, left_stop, left_end}
-use Rattle.image_value.specs.Parts.{column_schema}
+use Rattle.bytes_bundle.specs.Held.{Is, Holds, is_held, held, held_once, list_count}
+use Rattle.bytes_bundle.specs.Ahead.{HoldEach, FirstHeld, hold_first, list_holds}
+use Rattle.bytes_bundle.specs.Numbered.{IsPart, valued, valued_is}
 use Rattle.image_catalogue.specs.Layout.{table}
 use Rattle.catalogue_lookup.specs.declared.Column.{Column}
 use Rattle.catalogue_lookup.specs.Finds.{ColumnIs, FindsColumn}
-use Rattle.image_catalogue.specs.Entries.{find_hit, find_miss, any_hit, any_miss}
+use Rattle.image_catalogue.specs.Entries.{find_hit, find_miss}
 use Rattle.image_parts.specs.Layout.{name}
 use Rattle.rules.specs.declared.Class.TheVariants.{SchemaMismatch, ConstraintViolation}
 use Rattle.rules.specs.declared.Refusal.{Refusal}
@@ -89,15 +90,43 @@ all_turn p (suc i) [] h e = absurd (omega (arith, ap length e))
 all_turn p zero (y ∷ l) {x} {m} h e = (and_of (p x) (all p m) (ap (all p) (sym e) ∙ h)).0
 all_turn p (suc i) (y ∷ l) h e = all_turn p i l (and_of (p y) (all p l) h).1 e
 
-pub name_part : {s : List ℕ} {i at e : ℕ} → AllShort of.Names s → Stepped 2 s i at e → Is name (take (e - at) (drop at s)) × ShortText (take (e - at) (drop at s))
-name_part {s} {i} a d = (
-  part_is {f = name} d a.is,
+pub name_at : {s p : List ℕ} {i : ℕ} → AllShort of.Names s → IsPart 2 s i p → Is name p × ShortText p
+name_at {i = i} a d = (
+  valued_is name d a.is,
   record {
     short = λ w h. held a.is (λ ns k.
-        let t = turn {f = name} d k in
+        let t = valued name d k in
         leb-true (length w.text) 128 (all_turn (λ (n : Name). short_name (some n)) i ns (a.short ns k) (t.rest ∙ ap (λ (n : Name). n ∷ drop (i + 1) ns) (held_once name t.holds h))));
   },
 )
+
+pub name_part : {s : List ℕ} {i at e : ℕ} → AllShort of.Names s → Stepped 2 s i at e → Is name (take (e - at) (drop at s)) × ShortText (take (e - at) (drop at s))
+name_part {i = i} a d = name_at {i = i} a (record { few = omega (arith, d.next.few); is = d.is })
+
+-- parts that hold names within the limit
+pub record NamesLeft (ps : List (List ℕ)) : Type 0 where
+  pub names : List Name
+  pub each : HoldEach name ps names
+  pub short : all (λ (n : Name). short_name (some n)) names ≡ true
+
+pub names_left : {s : List ℕ} {ps : List (List ℕ)} → AllShort of.Names s → ps ≡ parts_of 2 s → NamesLeft ps
+names_left {s} a e = held a.is (λ ns h. let k = list_holds 2 name s h in record { names = ns; each = rw e k; short = a.short ns h })
+
+module _ {p : List ℕ} {ps qs : List (List ℕ)} (l : NamesLeft ps) (e : ps ≡ p ∷ qs) where
+  first : FirstHeld name p qs l.names
+  first = hold_first (rw e at l.each)
+
+  both : (short_name (some first.value) ≡ true) × (all (λ (n : Name). short_name (some n)) first.others ≡ true)
+  both = and_of (short_name (some first.value)) (all (λ (n : Name). short_name (some n)) first.others) (ap (all (λ (n : Name). short_name (some n))) (sym first.is) ∙ l.short)
+
+  pub name_here : Is name p × ShortText p
+  name_here = (
+    is_held {f = name} first.holds,
+    record { short = λ w h. leb-true (length w.text) 128 (ap (λ (n : Name). short_name (some n)) (held_once name h first.holds) ∙ both.0) },
+  )
+
+  pub names_behind : NamesLeft qs
+  names_behind = record { names = first.others; each = first.each; short = both.1 }
 
 -- the text of such a name
 pub text_within : {p s : List ℕ} → Is name p × ShortText p → ((v : Name) → Holds name p v → s ≡ v.text) → length s ≤ 128
@@ -131,29 +160,6 @@ lacking k v ns c = needed k v c && missing (map canonical ns) c
 -- what a part that every value has holds
 pub listed : {A B : Type 0} {f : Format A} {g : Format B} {F : A → B} {s p : List ℕ} → Is f s → ((v : A) → Holds f s v → Holds g p (F v)) → Is g p
 listed {g = g} i k = held i (λ v h. is_held {f = g} (k v h))
-
--- a loop over a table's columns that has found none that is left out
-pub record Lacking (t names list : List ℕ) (k : Need) (i : ℕ) : Type 0 where
-  pub at : (v : TableSchema) (ns : List Name) → Holds table t v → Holds (list_of 2 name) names ns → Left (column_schema 2) (λ j cs. any (lacking k v ns) cs) list i
-
-pub lacking_none : {t names list : List ℕ} {k : Need} → Lacking t names list k 0
-lacking_none = record { at = λ v ns ht hs. left }
-
-module _ {t names list : List ℕ} {k : Need} {i : ℕ} (l : Lacking t names list k i) where
-  module _ {at e : ℕ} (d : Stepped 2 list i at e) {r : Bool}
-      (says : (v : TableSchema) (w : ColumnSchema) (ns : List Name) → Holds table t v → Holds (column_schema 2) (take (e - at) (drop at list)) w → Holds (list_of 2 name) names ns → r ≡ lacking k v ns w) where
-    pub lacking_on : r ≡ false → Lacking t names list k (i + 1)
-    lacking_on q = record {
-      at = λ v ns ht hs. left_on (l.at v ns ht hs) d (λ w m h. any_miss (lacking k v ns) w m (sym (says v w ns ht h hs) ∙ q));
-    }
-
-    pub lacking_hit : r ≡ true → (v : TableSchema) (ns : List Name) → Holds table t v → Holds (list_of 2 name) names ns → Holds (list_of 2 (column_schema 2)) list v.columns
-        → any (lacking k v ns) v.columns ≡ true
-    lacking_hit q v ns ht hs h = left_stop (l.at v ns ht hs) d (λ w m g. any_hit (lacking k v ns) w m (sym (says v w ns ht g hs) ∙ q)) v.columns h
-
-  pub lacking_end : {n at : ℕ} → Along list n i at → n ≤ i → (v : TableSchema) (ns : List Name) → Holds table t v → Holds (list_of 2 name) names ns
-      → Holds (list_of 2 (column_schema 2)) list v.columns → any (lacking k v ns) v.columns ≡ false
-  lacking_end a q v ns ht hs h = left_end (l.at v ns ht hs) a q v.columns h
 
 -- ---- the target columns
 
@@ -218,19 +224,19 @@ binding = record {
   };
 }
 
-module _ {t s codes : List ℕ} {i total at e : ℕ} (w : Binding t s codes i total) (d : Stepped 2 s i at e) {place : Maybe ℕ} (f : FindsRepeat of.Names s place) where
+module _ {t s codes part : List ℕ} {i total : ℕ} (w : Binding t s codes i total) (d : IsPart 2 s i part) {place : Maybe ℕ} (f : FindsRepeat of.Names s place) where
   module _ (v : TableSchema) (ns : List Name) (ht : Holds table t v) (hs : Holds (list_of 2 name) s ns) where
     abbrev p : Passed v ns codes i total
     p = w.at v ns ht hs
 
     abbrev n : Name
-    n = (turn {f = name} d hs).value
+    n = (valued name d hs).value
 
     rest : texts (drop i ns) ≡ canonical n ∷ texts (drop (i + 1) ns)
-    rest = ap texts (turn d hs).rest
+    rest = ap texts (valued name d hs).rest
 
     turned : drop i (map (entry of.Names) ns) ≡ some (canonical n) ∷ map (entry of.Names) (drop (i + 1) ns)
-    turned = drop_map (entry of.Names) i ns ∙ ap (map (entry of.Names)) (turn d hs).rest
+    turned = drop_map (entry of.Names) i ns ∙ ap (map (entry of.Names)) (valued name d hs).rest
 
     -- the place tells whether the name repeats one before it
     repeats : is_at i place ≡ any (same (canonical n)) p.before
@@ -250,12 +256,12 @@ module _ {t s codes : List ℕ} {i total at e : ℕ} (w : Binding t s codes i to
       grown_refused g.grown
       (ap (insert_columns v g.before) (rest v ns ht hs) ∙ columns_repeated v g.before _ _ (sym (repeats v ns ht hs) ∙ q))
 
-  module _ (q : is_at i place ≡ false) {r : Maybe Column} (look : (m : Name) → Holds name (take (e - at) (drop at s)) m → FindsColumn t (canonical m) r) where
+  module _ (q : is_at i place ≡ false) {r : Maybe Column} (look : (m : Name) → Holds name part m → FindsColumn t (canonical m) r) where
     pub bind_unknown : r ≡ None → (v : TableSchema) (ns : List Name) → Holds table t v → Holds (list_of 2 name) s ns
         → Err (classed SchemaMismatch) ≡ sized (list_of 4 bound_column_ref) (insert_columns v [] (texts ns))
     bind_unknown x v ns ht hs =
         let g = p v ns ht hs in
-        let o = subst (ColumnIs (column_by_name v (canonical (n v ns ht hs)))) x (look (n v ns ht hs) (turn d hs).holds v ht) in
+        let o = subst (ColumnIs (column_by_name v (canonical (n v ns ht hs)))) x (look (n v ns ht hs) (valued name d hs).holds v ht) in
         grown_refused g.grown
         (ap (insert_columns v g.before) (rest v ns ht hs) ∙ columns_unknown v g.before _ _ (sym (repeats v ns ht hs) ∙ q) o)
 
@@ -268,7 +274,7 @@ module _ {t s codes : List ℕ} {i total at e : ℕ} (w : Binding t s codes i to
       at = λ v ns ht hs.
           let g = p v ns ht hs in
           let k = n v ns ht hs in
-          let o = subst (ColumnIs (column_by_name v (canonical k))) x (look k (turn d hs).holds v ht) in
+          let o = subst (ColumnIs (column_by_name v (canonical k))) x (look k (valued name d hs).holds v ht) in
           let b = o.0 in
           let none = sym (repeats v ns ht hs) ∙ q in
           let z : code ≡ column_code b = y ∙ ap₂ code_of o.2.ty o.2.nullable in
@@ -288,12 +294,12 @@ module _ {t s codes : List ℕ} {i total at e : ℕ} (w : Binding t s codes i to
           };
     }
 
-module _ {t s codes : List ℕ} {i total n at : ℕ} (w : Binding t s codes i total) (a : Along s n i at) (l : n ≤ i) where
+module _ {t s codes : List ℕ} {i total : ℕ} (w : Binding t s codes i total) (a : i ≤ length (parts_of 2 s)) (l : length (parts_of 2 s) ≤ i) where
   pub bind_end : (v : TableSchema) (ns : List Name) → Holds table t v → Holds (list_of 2 name) s ns → ColumnsBound v ns codes (Ok total)
   bind_end v ns ht hs =
       let g = w.at v ns ht hs in
-      let z : length ns ≤ i = omega (arith, a.count, list_count name s hs) in
-      let e : length ns ≡ i = omega (arith, z, a.here.few, list_count name s hs) in
+      let z : length ns ≤ i = omega (arith, l, list_count name s hs) in
+      let e : length ns ≡ i = omega (arith, z, a, list_count name s hs) in
       let q : insert_columns v g.before (texts (drop i ns)) ≡ given [] = ap (λ (l : List Name). insert_columns v g.before (texts l)) (drop_of_length-le ns {i = i} z) ∙ columns_done v g.before in
       record {
         is = grown_given g.grown q;

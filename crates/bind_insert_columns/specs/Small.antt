@@ -1,11 +1,12 @@
 -- How long parts can be: no part of an image with counts of 2 bytes has more than 65,535 bytes, and so no sum of lengths wraps.
 -- Assumes nothing.
-use Rattle.std.specs.Prelude.{◌≡◌, List, [], ◌∷◌, ℕ, zero, suc, ◌-◌, ◌<◌, length, take, drop, get_or}
+use Rattle.std.specs.Prelude.{◌≡◌, List, [], ◌∷◌, ℕ, zero, suc, ◌<◌, length, get_or}
 use Rattle.std.proofs.Common.{sym, ap, subst, arith}
 use Rattle.bytes_wire.specs.Le.{Bytes}
 use Rattle.bytes_format.specs.Format.{Every}
 use Rattle.bytes_format.proofs.Formats.{pieces}
-use Rattle.bytes_bundle.specs.Bundle.{or_nil, parts_of, IsBundle, Stepped}
+use Rattle.bytes_bundle.specs.Bundle.{or_nil, parts_of, IsBundle}
+use Rattle.bytes_bundle.specs.Numbered.{IsPart}
 use Rattle.bytes_bundle.specs.Laws.{some_there}
 use Rattle.bytes_bundle.specs.Held.{Holds}
 use Rattle.image_catalogue.specs.Layout.{table}
@@ -29,8 +30,8 @@ part_at [] k h = omega arith
 part_at (p ∷ l) zero h = h.0
 part_at (p ∷ l) (suc k) h = part_at l k h.1
 
-pub part_small : {s : List ℕ} {i at e : ℕ} → Bytes s → IsBundle 2 s → Stepped 2 s i at e → length (take (e - at) (drop at s)) < 65536
-part_small {s} {i} b k d = subst (λ (p : List ℕ). length p < 65536) (sym d.is) (part_at (parts_of 2 s) i (parts_short b k).parts)
+pub part_small : {s p : List ℕ} {i : ℕ} → Bytes s → IsBundle 2 s → IsPart 2 s i p → length p < 65536
+part_small {s} {i = i} b k d = subst (λ (p : List ℕ). length p < 65536) (sym d.is) (part_at (parts_of 2 s) i (parts_short b k).parts)
 
 -- ---- a table's name
 

@@ -69,26 +69,20 @@ pub fn bind_columns(t: &[u8], names: &[u8], codes: &mut [u8; 64]) -> Result<usiz
         × ((v : TableSchema) (ns : List Name) → Holds table t.now v → Holds (list_of 2 name) names.now ns → ColumnsBound v ns codes.new result) }
 {
     let place = first_repeated(names, Of::Names);
-    let n = bytes_bundle::parts(names, 2);
     let mut total = 4;
-    let mut at = bytes_bundle::first(names, 2);
-    let mut i = 0;
-    while i < n {
-        let end = bytes_bundle::next(names, 2, i, at);
+    for (i, part) in bytes_bundle::iter(names, 2).enumerate() {
         if is_at(place, i) {
             return Err(Refusal {
                 class: Class::ConstraintViolation,
             });
         }
-        let Some(c) = find_target(t, &names[at..end]) else {
+        let Some(c) = find_target(t, part) else {
             return Err(Refusal {
                 class: Class::SchemaMismatch,
             });
         };
         codes[i] = code_of(c.ty, c.nullable);
         total += 4 + column_ref_len(c.name.len());
-        at = end;
-        i += 1;
     }
     Ok(total)
 }
@@ -105,16 +99,10 @@ fn has_name(names: &[u8], other: &[u8]) -> bool
     requires { AllShort of.Names names.now }
     ensures { (ns : List Name) → Holds (list_of 2 name) names.now ns → result ≡ is_among other.now ns }
 {
-    let n = bytes_bundle::parts(names, 2);
-    let mut at = bytes_bundle::first(names, 2);
-    let mut i = 0;
-    while i < n {
-        let end = bytes_bundle::next(names, 2, i, at);
-        if calls(&names[at..end], other) {
+    for part in bytes_bundle::iter(names, 2) {
+        if calls(part, other) {
             return true;
         }
-        at = end;
-        i += 1;
     }
     false
 }
@@ -146,16 +134,5 @@ pub fn lacks(t: &[u8], names: &[u8], need: Need) -> bool
     ensures { (v : TableSchema) (ns : List Name) → Holds table t.now v → Holds (list_of 2 name) names.now ns → result ≡ any (lacking need v ns) v.columns }
 {
     let list = image_catalogue::columns(t);
-    let n = bytes_bundle::parts(list, 2);
-    let mut at = bytes_bundle::first(list, 2);
-    let mut i = 0;
-    while i < n {
-        let end = bytes_bundle::next(list, 2, i, at);
-        if is_lacking(t, &list[at..end], names, need) {
-            return true;
-        }
-        at = end;
-        i += 1;
-    }
-    false
+    bytes_bundle::iter(list, 2).any(|c| is_lacking(t, c, names, need))
 }

@@ -1,14 +1,16 @@
 -- The rows of an INSERT held against the bytes of the target columns, value by value.
 -- Assumes nothing.
-use Rattle.std.specs.Prelude.{◌≡◌, List, [], ◌∷◌, ℕ, zero, suc, ◌+◌, ◌-◌, ◌≤◌, ◌<◌, length, take, drop, get_or, Result, Ok, Err}
+use Rattle.std.specs.Prelude.{◌≡◌, List, [], ◌∷◌, ℕ, zero, suc, ◌+◌, ◌≤◌, ◌<◌, length, drop, get_or, Result, Ok, Err}
 use Rattle.std.proofs.Math.Path.{refl}
 use Rattle.std.proofs.Common.{sym, ap, ap₂, ◌∙◌, add-one, arith, drop_of_length-le, eq-eqb, ne_eqb}
 use Rattle.std.proofs.Math.Bool.{not}
 use Rattle.bytes_format.specs.Format.{Format}
 use Rattle.bytes_format.proofs.Formats.{list_of}
 use Rattle.image_value.specs.Parts.{value}
-use Rattle.bytes_bundle.specs.Bundle.{Stepped}
-use Rattle.bytes_bundle.specs.Held.{Holds, Along, turn, list_count}
+use Rattle.bytes_bundle.specs.Bundle.{parts_of}
+use Rattle.bytes_bundle.specs.Held.{Is, Holds, is_held, held}
+use Rattle.bytes_bundle.specs.Ahead.{HoldEach, FirstHeld, hold_first, hold_none, list_holds}
+use Rattle.bytes_bundle.specs.Numbered.{IsPart, valued}
 use Rattle.image_expression.specs.Expression.{expression}
 use Rattle.rules.specs.declared.Class.{Class}
 use Rattle.rules.specs.declared.Class.TheVariants.{ConstraintViolation}
@@ -89,12 +91,12 @@ pub record Valued (row codes : List ℕ) (n j total : ℕ) : Type 0 where
 pub valued_none : {row codes : List ℕ} {n : ℕ} → Valued row codes n 0 4
 valued_none = record { at = λ cs es k q h. grown_none value (insert_values cs es) }
 
-module _ {row codes : List ℕ} {n j total at e : ℕ} (w : Valued row codes n j total) (d : Stepped 2 row j at e) (few : j < n) {m : Result ℕ Refusal}
-    (says : (x : Expr) (c : BoundColumnRef) → Holds expression (take (e - at) (drop at row)) x → get_or codes j 0 ≡ column_code c → m ≡ sized value (insert_value x c)) where
+module _ {row codes p : List ℕ} {n j total : ℕ} (w : Valued row codes n j total) (d : IsPart 2 row j p) (few : j < n) {m : Result ℕ Refusal}
+    (says : (x : Expr) (c : BoundColumnRef) → Holds expression p x → get_or codes j 0 ≡ column_code c → m ≡ sized value (insert_value x c)) where
   pub valued_on : {k : ℕ} → m ≡ Ok k → Valued row codes n (j + 1) (total + (4 + k))
   valued_on {k} e = record {
     at = λ cs es b q h.
-        let t = turn {f = expression} d h in
+        let t = valued expression d h in
         let u = drop_turn j cs (omega (arith, q)) in
         let s = sized_is value {m = m} (says t.value u.0 t.holds (coded_at j b u.1)) e in
         grown_more (w.at cs es b q h) (insert_values (drop (j + 1) cs) (drop (j + 1) es)) s.value
@@ -104,7 +106,7 @@ module _ {row codes : List ℕ} {n j total at e : ℕ} (w : Valued row codes n j
   pub valued_off : {r : Refusal} → m ≡ Err r → (cs : List BoundColumnRef) (es : List Expr) → Coded codes cs → n ≡ length cs → Holds (list_of 2 expression) row es
       → Err r ≡ sized (list_of 4 value) (insert_values cs es)
   valued_off e cs es b q h =
-      let t = turn {f = expression} d h in
+      let t = valued expression d h in
       let u = drop_turn j cs (omega (arith, q)) in
       grown_refused (w.at cs es b q h)
       (ap₂ insert_values u.1 t.rest ∙ values_next u.0 (drop (j + 1) cs) t.value (drop (j + 1) es)
@@ -133,33 +135,44 @@ module _ (cs : List BoundColumnRef) (es : List Expr) where
 
 -- ---- the rows
 
--- a loop over the rows that has reached row i
-pub record Rowed (rows codes : List ℕ) (n i total : ℕ) : Type 0 where
-  pub at : (cs : List BoundColumnRef) (rs : List (List Expr)) → Coded codes cs → n ≡ length cs → Holds (list_of 2 (list_of 2 expression)) rows rs
-      → Grown (list_of 4 value) (each (insert_row cs) rs) (each (insert_row cs) (drop i rs)) i total
+-- a loop over the rows that has the parts ps before it
+pub record Rowed (rows codes : List ℕ) (n : ℕ) (ps : List (List ℕ)) (total : ℕ) : Type 0 where
+  pub at : (rs : List (List Expr)) → Holds (list_of 2 (list_of 2 expression)) rows rs → (us : List (List Expr)) × HoldEach (list_of 2 expression) ps us
+      × ((cs : List BoundColumnRef) → Coded codes cs → n ≡ length cs → (i : ℕ) × Grown (list_of 4 value) (each (insert_row cs) rs) (each (insert_row cs) us) i total)
 
-pub rowed_none : {rows codes : List ℕ} {n : ℕ} → Rowed rows codes n 0 4
-rowed_none = record { at = λ cs rs k q h. grown_none (list_of 4 value) (each (insert_row cs) rs) }
+pub rowed_none : {rows codes : List ℕ} {n : ℕ} {ps : List (List ℕ)} → ps ≡ parts_of 2 rows → Rowed rows codes n ps 4
+rowed_none {rows = rows} e = record {
+  at = λ rs h. let l = list_holds 2 (list_of 2 expression) rows h in (rs, rw e l, λ cs k q. (0, grown_none (list_of 4 value) (each (insert_row cs) rs)));
+}
 
-module _ {rows codes : List ℕ} {n i total at e : ℕ} (w : Rowed rows codes n i total) (d : Stepped 2 rows i at e) {m : Result ℕ Refusal}
-    (says : Measures codes n (list_of 2 expression) (take (e - at) (drop at rows)) (list_of 4 value) insert_row m) where
-  pub rowed_on : {k : ℕ} → m ≡ Ok k → Rowed rows codes n (i + 1) (total + (4 + k))
-  rowed_on e = record {
-    at = λ cs rs b q h.
-        let t = turn {f = list_of 2 expression} d h in
-        let s = sized_is (list_of 4 value) {m = m} (says cs t.value b q t.holds) e in
-        grown_more (w.at cs rs b q h) (each (insert_row cs) (drop (i + 1) rs)) s.value
-        (ap (each (insert_row cs)) t.rest ∙ each_on (insert_row cs) t.value (drop (i + 1) rs) s.gives) s.long;
-  }
+module _ {rows codes p : List ℕ} {n total : ℕ} {ps qs : List (List ℕ)} (w : Rowed rows codes n ps total) (d : ps ≡ p ∷ qs) where
+  pub rowed_part : Is (list_of 2 (list_of 2 expression)) rows → Is (list_of 2 expression) p
+  rowed_part k = held k (λ rs h. let r = w.at rs h in is_held {f = list_of 2 expression} (hold_first (rw d at r.1)).holds)
 
-  pub rowed_off : {r : Refusal} → m ≡ Err r → Measures codes n (list_of 2 (list_of 2 expression)) rows (list_of 4 (list_of 4 value)) (λ cs. each (insert_row cs)) (Err r)
-  rowed_off e cs rs b q h =
-      let t = turn {f = list_of 2 expression} d h in
-      grown_refused (w.at cs rs b q h)
-      (ap (each (insert_row cs)) t.rest ∙ each_off (insert_row cs) t.value (drop (i + 1) rs) (sized_off (list_of 4 value) {m = m} (says cs t.value b q t.holds) e))
+  module _ {m : Result ℕ Refusal} (says : Measures codes n (list_of 2 expression) p (list_of 4 value) insert_row m) where
+    pub rowed_on : {k : ℕ} → m ≡ Ok k → Rowed rows codes n qs (total + (4 + k))
+    rowed_on e = record {
+      at = λ rs h.
+          let r = w.at rs h in
+          let t : FirstHeld (list_of 2 expression) p qs r.0 = hold_first (rw d at r.1) in (
+            t.others,
+            t.each,
+            λ cs b q.
+                let g = r.2 cs b q in
+                let s = sized_is (list_of 4 value) {m = m} (says cs t.value b q t.holds) e in
+                (g.0 + 1, grown_more g.1 (each (insert_row cs) t.others) s.value (ap (each (insert_row cs)) t.is ∙ each_on (insert_row cs) t.value t.others s.gives) s.long),
+          );
+    }
 
-pub rowed_end : {rows codes : List ℕ} {n i total k at : ℕ} → Rowed rows codes n i total → Along rows k i at → k ≤ i
+    pub rowed_off : {r : Refusal} → m ≡ Err r → Measures codes n (list_of 2 (list_of 2 expression)) rows (list_of 4 (list_of 4 value)) (λ cs. each (insert_row cs)) (Err r)
+    rowed_off e cs rs b q h =
+        let r = w.at rs h in
+        let t : FirstHeld (list_of 2 expression) p qs r.0 = hold_first (rw d at r.1) in
+        grown_refused (r.2 cs b q).1
+        (ap (each (insert_row cs)) t.is ∙ each_off (insert_row cs) t.value t.others (sized_off (list_of 4 value) {m = m} (says cs t.value b q t.holds) e))
+
+pub rowed_end : {rows codes : List ℕ} {n total : ℕ} {ps : List (List ℕ)} → Rowed rows codes n ps total → ps ≡ []
     → Measures codes n (list_of 2 (list_of 2 expression)) rows (list_of 4 (list_of 4 value)) (λ cs. each (insert_row cs)) (Ok total)
-rowed_end {rows = rows} {i = i} w a l cs rs b q h =
-    let z : length rs ≤ i = omega (arith, a.count, list_count (list_of 2 expression) rows h) in
-    grown_given (w.at cs rs b q h) (ap (each (insert_row cs)) (drop_of_length-le rs {i = i} z) ∙ each_none (insert_row cs))
+rowed_end w e cs rs b q h =
+    let r = w.at rs h in
+    grown_given (r.2 cs b q).1 (ap (each (insert_row cs)) (hold_none (rw e at r.1)) ∙ each_none (insert_row cs))

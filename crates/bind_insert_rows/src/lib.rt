@@ -76,13 +76,8 @@ fn row_len(row: &[u8], codes: &[u8; 64], n: usize) -> Result<usize, Refusal>
         });
     }
     let mut total = 4;
-    let mut at = bytes_bundle::first(row, 2);
-    let mut j = 0;
-    while j < n {
-        let end = bytes_bundle::next(row, 2, j, at);
-        total += 4 + value_len(&row[at..end], codes[j])?;
-        at = end;
-        j += 1;
+    for (j, e) in bytes_bundle::iter(row, 2).enumerate() {
+        total += 4 + value_len(e, codes[j])?;
     }
     Ok(total)
 }
@@ -92,15 +87,9 @@ fn rows_len(rows: &[u8], codes: &[u8; 64], n: usize) -> Result<usize, Refusal>
     ensures { IfOk result (λ k. k ≤ 300000000000)
         × Measures codes.now n (list_of 2 (list_of 2 expression)) rows.now (list_of 4 (list_of 4 value)) (λ cs. each (insert_row cs)) result }
 {
-    let many = bytes_bundle::parts(rows, 2);
     let mut total = 4;
-    let mut at = bytes_bundle::first(rows, 2);
-    let mut i = 0;
-    while i < many {
-        let end = bytes_bundle::next(rows, 2, i, at);
-        total += 4 + row_len(&rows[at..end], codes, n)?;
-        at = end;
-        i += 1;
+    for row in bytes_bundle::iter(rows, 2) {
+        total += 4 + row_len(row, codes, n)?;
     }
     Ok(total)
 }

@@ -1,8 +1,8 @@
 -- The steps of a SELECT as the code makes them: its body, its table, then its items and its condition over the table.
 -- Assumes nothing.
-use Rattle.std.specs.Prelude.{◌≡◌, Bool, true, false, ℕ, ◌+◌, ◌≤◌, length, drop}
+use Rattle.std.specs.Prelude.{◌≡◌, Bool, true, false, ℕ, ◌+◌, length}
 use Rattle.std.proofs.Math.Path.{refl, sym, ap}
-use Rattle.std.proofs.Common.{◌∙◌, arith, drop_of_length-le}
+use Rattle.std.proofs.Common.{◌∙◌, arith}
 use mathlib.Core.List.{List, [], ◌∷◌, ◌++◌}
 use Rattle.std.proofs.Math.Option.{Option, none, some}
 use Rattle.bytes_format.specs.Format.{Format}
@@ -189,35 +189,29 @@ module _ (t : TableSchema) where
 abbrev pub behind : ℕ → Answer (List BoundColumnRef) → Result ℕ Refusal
 behind sum a = told (mapped (λ cs. sum + entries cs) a)
 
-pub record Summed (t : TableSchema) (xs : List Item) (i sum : ℕ) : Type 0 where
-  pub is : sized (list_of 4 bound_column_ref) (projection t xs) ≡ behind sum (projection t (drop i xs))
+module _ (t : TableSchema) where
+  pub summed_none : (xs : List Item) → sized (list_of 4 bound_column_ref) (projection t xs) ≡ behind 4 (projection t xs)
+  unfolding sized
+  summed_none xs = go (projection t xs)
+    where
+      go : (a : Answer (List BoundColumnRef)) → told (mapped (λ cs. length ((list_of 4 bound_column_ref).write cs)) a) ≡ behind 4 a
+      go (given cs) = ap Ok (list_entries cs)
+      go (refused r) = refl
 
-pub summed_none : (t : TableSchema) (xs : List Item) → Summed t xs 0 4
-unfolding sized
-summed_none t xs = record { is = go (projection t xs) }
-  where
-    go : (a : Answer (List BoundColumnRef)) → told (mapped (λ cs. length ((list_of 4 bound_column_ref).write cs)) a) ≡ behind 4 a
-    go (given cs) = ap Ok (list_entries cs)
-    go (refused r) = refl
-
-module _ {t : TableSchema} {xs : List Item} {i sum : ℕ} (s : Summed t xs i sum) where
-  module _ {x : Item} (d : drop i xs ≡ x ∷ drop (i + 1) xs) where
+  module _ (sum : ℕ) (x : Item) (xs : List Item) where
     -- an item that is refused is the answer
-    pub summed_off : {r : Refusal} → item t x ≡ refused r → Err r ≡ sized (list_of 4 bound_column_ref) (projection t xs)
+    pub summed_off : {r : Refusal} → item t x ≡ refused r → behind sum (projection t (x ∷ xs)) ≡ Err r
     unfolding projection
-    summed_off h = sym (s.is ∙ ap (λ (l : List Item). behind sum (projection t l)) d ∙ ap (behind sum) (step_off _ h))
+    summed_off h = ap (behind sum) (step_off _ h)
 
-    pub summed_on : {cs : List BoundColumnRef} {n : ℕ} → item t x ≡ given cs → n ≡ entries cs → Summed t xs (i + 1) (sum + n)
+    pub summed_on : {cs : List BoundColumnRef} {n : ℕ} → item t x ≡ given cs → n ≡ entries cs → behind sum (projection t (x ∷ xs)) ≡ behind (sum + n) (projection t xs)
     unfolding projection
-    summed_on {cs} {n} h k = record {
-      is = s.is ∙ ap (λ (l : List Item). behind sum (projection t l)) d ∙ ap (behind sum) (step_on _ h) ∙ go (projection t (drop (i + 1) xs));
-    }
+    summed_on {cs} {n} h k = ap (behind sum) (step_on _ h) ∙ go (projection t xs)
       where
         go : (a : Answer (List BoundColumnRef)) → behind sum (a >>= (λ ds. given (cs ++ ds))) ≡ behind (sum + n) a
         go (given ds) = ap Ok (omega (arith, entries_append cs ds, k))
         go (refused r) = refl
 
-  pub summed_end : length xs ≤ i → Ok sum ≡ sized (list_of 4 bound_column_ref) (projection t xs)
+  pub summed_end : (sum : ℕ) → behind sum (projection t []) ≡ Ok sum
   unfolding projection
-  summed_end h =
-      sym (s.is ∙ ap (λ (l : List Item). behind sum (projection t l)) (drop_of_length-le xs {i = i} h) ∙ ap Ok (omega (arith, no_entries)))
+  summed_end sum = ap Ok (omega (arith, no_entries))

@@ -8,6 +8,7 @@ use Rattle.bytes_format.proofs.Formats.{list_of}
 use Rattle.bytes_bundle.specs.Bundle.{parts_of, Stepped}
 use Rattle.bytes_bundle.specs.Decides.{and_of}
 use Rattle.bytes_bundle.specs.Held.{Is, Holds, is_held, held, held_once, list_count, turn, part_is}
+use Rattle.bytes_bundle.specs.Ahead.{HoldEach, FirstHeld, hold_first, list_holds}
 use Rattle.image_expression.specs.Names.{Within}
 use Rattle.bind_where.specs.There.{ShortCondition, condition_names, condition_within_lem}
 use Rattle.bind_table.specs.Short.{ShortText, ShortTable, short_text, short_table, all_front, all_back, held_within_lem, select_short}
@@ -127,6 +128,33 @@ item_within_lem {s} {i} l d = record {
       let t = turn {f = item} d k in
       ap (λ (y : Item). all Within (item_names y)) (held_once item h t.holds) ∙ all_gather Within item_names i xs (l.short xs k) t.rest);
 }
+
+-- parts that hold items whose names are short
+pub record ItemsLeft (ps : List (List ℕ)) : Type 0 where
+  pub items : List Item
+  pub each : HoldEach item ps items
+  pub short : all Within (gather item_names items) ≡ true
+
+pub items_left : {s : List ℕ} {ps : List (List ℕ)} → ItemsWithin s → ps ≡ parts_of 2 s → ItemsLeft ps
+items_left {s} l e = held {f = list_of 2 item} {s = s} l.is (λ xs h. let k = list_holds 2 item s h in record { items = xs; each = rw e k; short = l.short xs h })
+
+module _ {p : List ℕ} {ps qs : List (List ℕ)} (l : ItemsLeft ps) (e : ps ≡ p ∷ qs) where
+  first : FirstHeld item p qs l.items
+  first = hold_first (rw e at l.each)
+
+  here : all Within (item_names first.value ++ gather item_names first.others) ≡ true
+  here = ap (λ (xs : List Item). all Within (gather item_names xs)) (sym first.is) ∙ l.short
+
+  pub item_here : ItemWithin p
+  item_here = record {
+    is = is_held {f = item} first.holds;
+    short = λ x h.
+        ap (λ (y : Item). all Within (item_names y)) (held_once item h first.holds)
+        ∙ all_front Within (item_names first.value) (gather item_names first.others) here;
+  }
+
+  pub items_behind : ItemsLeft qs
+  items_behind = record { items = first.others; each = first.each; short = all_back Within (item_names first.value) (gather item_names first.others) here }
 
 -- s is a name
 pub record Called (s : List ℕ) : Type 0 where

@@ -68,16 +68,10 @@ fn columns_size(s: &[u8]) -> usize
     ensures few { result ≤ 4296802275 }
     ensures told { (cs : List ColumnSchema) → Holds (list_of 2 (column_schema 2)) s.now cs → result ≡ column_entries cs }
 {
-    let n = bytes_bundle::parts(s, 2);
     let mut sum = 0;
-    let mut at = bytes_bundle::first(s, 2);
-    let mut i = 0;
-    while i < n {
-        let end = bytes_bundle::next(s, 2, i, at);
-        let name = column_name(&s[at..end]);
+    for column in bytes_bundle::iter(s, 2) {
+        let name = column_name(column);
         sum += entry_len(name.len());
-        at = end;
-        i += 1;
     }
     sum
 }
@@ -128,15 +122,9 @@ fn projection_size(t: &[u8], s: &[u8]) -> Result<usize, Refusal>
     ensures told { (v : TableSchema) (xs : List Item) → Holds table t.now v → Holds (list_of 2 layout.item) s.now xs
         → result ≡ sized (list_of 4 bound_column_ref) (projection v xs) }
 {
-    let n = bytes_bundle::parts(s, 2);
     let mut sum = count_len();
-    let mut at = bytes_bundle::first(s, 2);
-    let mut i = 0;
-    while i < n {
-        let end = bytes_bundle::next(s, 2, i, at);
-        sum += item_size(t, &s[at..end])?;
-        at = end;
-        i += 1;
+    for item in bytes_bundle::iter(s, 2) {
+        sum += item_size(t, item)?;
     }
     Ok(sum)
 }

@@ -7,7 +7,8 @@ use borrow.Author.Tests.{leb-true}
 use Rattle.bytes_format.proofs.Formats.{list_of}
 use Rattle.bytes_bundle.specs.Bundle.{Stepped}
 use Rattle.bytes_bundle.specs.Decides.{and_of}
-use Rattle.bytes_bundle.specs.Held.{Is, Holds, is_held, held, held_once, turn, part_is}
+use Rattle.bytes_bundle.specs.Held.{Is, Holds, is_held, held, held_once}
+use Rattle.bytes_bundle.specs.Numbered.{IsPart, valued, valued_is}
 use Rattle.image_expression.specs.Expression.{expression}
 use Rattle.image_expression.specs.Names.{Within}
 use Rattle.image_parts.specs.Layout.{object_name, condition, assignment_target, assignment, updating}
@@ -93,13 +94,16 @@ module _ {s : List ℕ} (h : ShortAssignment s) where
 -- ---- the assignments
 
 module _ {s : List ℕ} (h : ShortAssignments s) where
-  pub assignments_part : {i at e : ℕ} → Stepped 2 s i at e → ShortAssignment (take (e - at) (drop at s))
-  assignments_part {i} {at} {e} d = record {
-    is = part_is {f = assignment} d h.is;
+  pub assignment_short : {i : ℕ} {p : List ℕ} → IsPart 2 s i p → ShortAssignment p
+  assignment_short {i} {p} d = record {
+    is = valued_is assignment d h.is;
     short = λ a k. held h.is (λ xs q.
-        let t = turn {f = assignment} d q in
+        let t = valued assignment d q in
         ap ShortNames (held_once assignment k t.holds) ∙ all_turn ShortNames i xs (h.short xs q) t.rest);
   }
+
+  pub assignments_part : {i at e : ℕ} → Stepped 2 s i at e → ShortAssignment (take (e - at) (drop at s))
+  assignments_part {i} {at} {e} d = assignment_short {i = i} (record { few = omega (arith, d.next.few); is = d.is })
 
   pub assignments_targets : AllShort of.Targets s
   assignments_targets = record {

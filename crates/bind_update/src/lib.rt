@@ -114,15 +114,9 @@ fn assignments_size(t: &[u8], s: &[u8]) -> Result<usize, Refusal>
         → result ≡ sized (list_of 4 layout.assignment) (analyze.assignments v [] xs) }
 {
     let place = first_repeated(s, Of::Targets);
-    let n = bytes_bundle::parts(s, 2);
-    let mut at = bytes_bundle::first(s, 2);
-    let mut i = 0;
     let mut sum = count_len();
-    while i < n {
-        let end = bytes_bundle::next(s, 2, i, at);
-        sum += count_len() + assignment_size(t, &s[at..end], is_at(place, i))?;
-        at = end;
-        i += 1;
+    for (i, part) in bytes_bundle::iter(s, 2).enumerate() {
+        sum += count_len() + assignment_size(t, part, is_at(place, i))?;
     }
     Ok(sum)
 }

@@ -1,12 +1,15 @@
 -- A loop over the parts of a bundle that counts them: the number of the part that it has reached, and no byte's position.
 -- Assumes nothing.
-use Rattle.std.specs.Prelude.{◌≡◌, refl, List, [], ◌∷◌, ℕ, suc, ◌+◌, ◌^◌, ◌≤◌, ◌<◌, length, drop, get_or}
+use Rattle.std.specs.Prelude.{◌≡◌, refl, List, [], ◌∷◌, ℕ, zero, suc, ◌+◌, ◌^◌, ◌≤◌, ◌<◌, length, drop, get_or}
 use Rattle.std.proofs.Common.{sym, ap, ◌∙◌, add-one, arith, length-drop, drop-cons}
 use Rattle.bytes_format.specs.Format.{Format}
 use Rattle.std.proofs.Math.Option.{Option}
 use Rattle.bytes_wire.specs.Le.{Bytes}
 use Rattle.bytes_format.proofs.Formats.{list_of, pieces}
+use Rattle.bytes_bundle.specs.declared.parts_iter.Parts.{Parts}
 use Rattle.bytes_bundle.specs.Bundle.{or_nil, parts_of, IsBundle}
+use Rattle.bytes_bundle.specs.Contents.{lengths, cuts}
+use Rattle.bytes_bundle.specs.Left.{parts_left}
 use Rattle.bytes_bundle.specs.Laws.{some_there, Each, list_values}
 use Rattle.bytes_bundle.specs.Held.{Is, Holds, is_held, held}
 
@@ -68,3 +71,17 @@ module _ {A : Type 0} (f : Format A) {w : ℕ} {s : List ℕ} {i : ℕ} {p : Lis
   -- the part is of the format
   pub valued_is : Is (list_of w f) s → Is f p
   valued_is k = held k (λ vs h. is_held {f = f} (valued h).holds)
+
+-- ---- how many parts an iterator has to give
+
+lengths_length : (w n : ℕ) (s : List ℕ) → length (lengths w n s) ≡ n
+lengths_length w zero s = refl
+lengths_length w (suc n) s = ap suc (lengths_length w n _)
+
+cuts_length : (ns s : List ℕ) → length (cuts ns s) ≡ length ns
+cuts_length [] s = refl
+cuts_length (n ∷ ns) s = ap suc (cuts_length ns _)
+
+pub left_count : (p : Parts) → length (parts_left p) ≡ p.left
+unfolding parts_left
+left_count p = cuts_length (lengths p.w p.left p.lengths.now) p.bytes.now ∙ lengths_length p.w p.left p.lengths.now

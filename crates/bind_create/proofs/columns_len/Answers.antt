@@ -1,62 +1,60 @@
 -- `bind_create::columns_len` meets its contract. The invariant: what was added up and what is left make the whole.
 use borrow.Author.Rules.{rules}
-use Prim.Native.Nat.{◌+◌, ◌≤◌}
-use mathlib.Core.Path.{◌≡◌, ap, ◌∙◌}
-use lib.ListN.{length, drop, drop_of_length-le}
+use Prim.Native.Nat.{◌≤◌}
+use mathlib.Core.Path.{◌≡◌, ap}
+use lib.ListN.{length}
 use native.Mathlib.Omega.{arith}
-use Rattle.bytes_bundle.specs.Held.{along, along_on, list_bundle, list_count, part_is, turn}
+use Rattle.bytes_bundle.specs.Bundle.{parts_of}
+use Rattle.bytes_bundle.specs.Left.{parts_left}
+use Rattle.bytes_bundle.specs.Held.{list_bundle}
+use Rattle.bytes_bundle.specs.Ahead.{ahead_from, ahead_on, ahead_end}
 use Rattle.image_parts.specs.Layout.{column_definition}
-use Rattle.bind_create.specs.Defined.{room_for}
-use Rattle.bind_repeats.specs.Short.{short_part, short_length, short_inside, in_column}
+use Rattle.bind_repeats.specs.Short.{short_length, short_inside, in_column}
+use Rattle.bind_create.specs.Within.{columns_left, column_here, columns_behind}
 use Rattle.bind_create.proofs.Names.{room_next, room_end}
-use Rattle.image_parts.specs.Layout.{column_definition}
+use Rattle.bind_create.proofs.columns_len.Goals.{After-name_text-text}
 use Rattle.bind_create.proofs.columns_len.Goals as goal
 
-pub parts-n-requires : goal.parts-n-requires
-parts-n-requires c = let r = list_bundle column_definition c.requires.short.is in search rules
+-- a name is within the limit
+named : (c : After-name_text-text) → length c.name_text-text.result.now ≤ 128
+named c = short_length (short_inside (column_here c.loop-column.invariant.1 c.in-Some.ensures.steps) (in_column c.column_name.ensures)) c.name_text-text.ensures
 
-pub first-at-requires : goal.first-at-requires
-first-at-requires c = let r = list_bundle column_definition c.requires.short.is in search rules
+pub iter-column-items-requires : goal.iter-column-items-requires
+iter-column-items-requires c = let r = list_bundle column_definition c.requires.short.is in search rules
 
-pub loop-i-init : goal.loop-i-init
-loop-i-init c = (along column_definition c.requires.short.is c.parts-n.ensures c.first-at.ensures, omega arith, λ cs h. omega arith)
+pub loop-column-init : goal.loop-column-init
+loop-column-init c =
+    let e : parts_left c.into_iter-column-iterator.result ≡ parts_of 2 c.args.s.now = cc in
+    (omega (arith, ap length e), columns_left c.requires.short e, ahead_from e (λ cs. omega arith))
 
 pub column_name-requires : goal.column_name-requires
-column_name-requires c = part_is c.next-end.ensures c.requires.short.is
+column_name-requires c = (column_here c.loop-column.invariant.1 c.in-Some.ensures.steps).is
 
 pub name_text-text-requires : goal.name_text-text-requires
-name_text-text-requires c = (short_inside (short_part c.requires.short c.next-end.ensures) (in_column c.column_name.ensures)).is
+name_text-text-requires c = (short_inside (column_here c.loop-column.invariant.1 c.in-Some.ensures.steps) (in_column c.column_name.ensures)).is
 
 pub column_schema_len-requires : goal.column_schema_len-requires
-column_schema_len-requires c = let w = short_length (short_inside (short_part c.requires.short c.next-end.ensures) (in_column c.column_name.ensures)) c.name_text-text.ensures in omega (arith, w)
+column_schema_len-requires c = omega (arith, named (goal.at.column_schema_len-requires c).After-name_text-text)
 
 pub overflow_add-sum : goal.overflow_add-sum
-overflow_add-sum c = let w = short_length (short_inside (short_part c.requires.short c.next-end.ensures) (in_column c.column_name.ensures)) c.name_text-text.ensures in omega (arith, c.column_schema_len.ensures.0, w)
+overflow_add-sum c = omega (arith, c.column_schema_len.ensures.0, named (goal.at.overflow_add-sum c).After-name_text-text)
 
-pub overflow_add-sum-in-loop-i : goal.overflow_add-sum-in-loop-i
-overflow_add-sum-in-loop-i c =
-    let w = short_length (short_inside (short_part c.requires.short c.next-end.ensures) (in_column c.column_name.ensures)) c.name_text-text.ensures in
-    let l = c.loop-i in
-    omega (arith, c.column_schema_len.ensures.0, w, l.invariant.1, l.invariant.0.count, c.requires.few, c.loop-i-test.true)
+pub overflow_add-sum-in-loop-column : goal.overflow_add-sum-in-loop-column
+overflow_add-sum-in-loop-column c =
+    omega (arith, c.column_schema_len.ensures.0, named (goal.at.overflow_add-sum-in-loop-column c).After-name_text-text, c.loop-column.invariant.0, c.requires.few)
 
-pub loop-i-preserved : goal.loop-i-preserved
-loop-i-preserved c =
-    let w = short_length (short_inside (short_part c.requires.short c.next-end.ensures) (in_column c.column_name.ensures)) c.name_text-text.ensures in
-    let l = c.loop-i in
-    let d = c.next-end.ensures in (
-      along_on l.invariant.0 d,
-      omega (arith, c.column_schema_len.ensures.0, w, l.invariant.1),
-      λ cs h.
-          let t = turn {f = column_definition} d h in
-          let e : room_for (drop l.i cs) ≡ 26 + length t.value.name.text + room_for (drop (l.i + 1) cs) = ap room_for t.rest ∙ room_next t.value (drop (l.i + 1) cs) in
-          omega (arith, c.column_schema_len.ensures.0, l.invariant.2 cs h, e, ap length (c.name_text-text.ensures t.value.name (c.column_name.ensures t.value t.holds))),
+pub loop-column-preserved : goal.loop-column-preserved
+loop-column-preserved c =
+    let l = c.loop-column in
+    let d = c.in-Some.ensures.steps in (
+      omega (arith, c.column_schema_len.ensures.0, named (goal.at.loop-column-preserved c).After-name_text-text, l.invariant.0, ap length d),
+      columns_behind l.invariant.1 d,
+      ahead_on l.invariant.2 d (λ v cs h. omega (arith, c.column_schema_len.ensures.0, room_next v cs, ap length (c.name_text-text.ensures v.name (c.column_name.ensures v h)))),
     )
 
 pub returns : goal.returns
 returns c =
-    let l = c.loop-i in (
-      λ cs h.
-          let z : length cs ≤ l.i = omega (arith, list_count column_definition c.args.s.now h, l.invariant.0.count, c.loop-i-test.false) in
-          omega (arith, l.invariant.2 cs h, ap room_for (drop_of_length-le cs {i = l.i} z) ∙ room_end),
-      omega (arith, l.invariant.1, l.invariant.0.here.few, c.requires.few),
+    let l = c.loop-column in (
+      λ cs h. omega (arith, ahead_end l.invariant.2 c.in-None.ensures.steps.0 cs h, room_end),
+      omega (arith, l.invariant.0, c.requires.few),
     )
