@@ -8,6 +8,7 @@ use Rattle.bytes_format.proofs.Formats.{list_of}
 use Rattle.bytes_bundle.specs.Bundle.{Stepped}
 use Rattle.bytes_bundle.specs.Decides.{and_of}
 use Rattle.bytes_bundle.specs.Held.{Is, Holds, is_held, held, held_once, turn, part_is}
+use Rattle.bytes_bundle.specs.Numbered.{IsPart, valued, valued_is}
 use Rattle.image_expression.specs.Expression.{expression}
 use Rattle.image_expression.specs.Names.{Within}
 use Rattle.image_parts.specs.Layout.{object_name, condition, assignment_target, assignment, updating}
@@ -98,6 +99,15 @@ module _ {s : List ℕ} (h : ShortAssignments s) where
     is = part_is {f = assignment} d h.is;
     short = λ a k. held h.is (λ xs q.
         let t = turn {f = assignment} d q in
+        ap ShortNames (held_once assignment k t.holds) ∙ all_turn ShortNames i xs (h.short xs q) t.rest);
+  }
+
+  -- the same of a part by its number
+  pub assignments_entry : {i : ℕ} {p : List ℕ} → IsPart 2 s i p → ShortAssignment p
+  assignments_entry {i} d = record {
+    is = valued_is assignment d h.is;
+    short = λ a k. held h.is (λ xs q.
+        let t = valued assignment d q in
         ap ShortNames (held_once assignment k t.holds) ∙ all_turn ShortNames i xs (h.short xs q) t.rest);
   }
 
