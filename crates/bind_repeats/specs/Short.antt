@@ -7,6 +7,7 @@ use Rattle.bytes_format.specs.Format.{Format}
 use Rattle.bytes_bundle.specs.Bundle.{Stepped}
 use Rattle.bytes_bundle.specs.Decides.{and_of}
 use Rattle.bytes_bundle.specs.Held.{Holds, turn, part_is, held, held_once, is_held}
+use Rattle.bytes_bundle.specs.Numbered.{IsPart, valued, valued_is}
 use Rattle.rules.specs.Lists.{all}
 use Rattle.rules.specs.Statements.{Name, ColumnDefinition, Assignment}
 use Rattle.image_parts.specs.Layout.{name, column_definition, assignment_target, assignment}
@@ -28,6 +29,15 @@ module _ {o : Of} {s : List ℕ} where
     is = part_is d a.is;
     short = λ v h. held a.is (λ vs k.
         let t = turn {f = form o} d k in
+        all_turn (λ w. short_name (name_in o w)) i vs v (drop (i + 1) vs) (a.short vs k) (t.rest ∙ ap (λ (w : Entry o). w ∷ drop (i + 1) vs) (held_once (form o) t.holds h)));
+  }
+
+  -- the same of a part by its number
+  pub short_entry : {i : ℕ} {p : List ℕ} → AllShort o s → IsPart 2 s i p → ShortIn (form o) (name_in o) p
+  short_entry {i} {p} a d = record {
+    is = valued_is (form o) d a.is;
+    short = λ v h. held a.is (λ vs k.
+        let t = valued (form o) d k in
         all_turn (λ w. short_name (name_in o w)) i vs v (drop (i + 1) vs) (a.short vs k) (t.rest ∙ ap (λ (w : Entry o). w ∷ drop (i + 1) vs) (held_once (form o) t.holds h)));
   }
 

@@ -9,6 +9,7 @@ use Rattle.bytes_bundle.specs.Bundle.{parts_of, Stepped}
 use Rattle.bytes_bundle.specs.Decides.{and_of}
 use Rattle.bytes_bundle.specs.Held.{Is, Holds, is_held, held, held_once, list_count, turn, part_is}
 use Rattle.bytes_bundle.specs.Ahead.{HoldEach, FirstHeld, hold_first, list_holds}
+use Rattle.bytes_bundle.specs.Numbered.{IsPart, valued, valued_is}
 use Rattle.image_expression.specs.Names.{Within}
 use Rattle.bind_where.specs.There.{ShortCondition, condition_names, condition_within_lem}
 use Rattle.bind_table.specs.Short.{ShortText, ShortTable, short_text, short_table, all_front, all_back, held_within_lem, select_short}
@@ -155,6 +156,15 @@ module _ {p : List ℕ} {ps qs : List (List ℕ)} (l : ItemsLeft ps) (e : ps ≡
 
   pub items_behind : ItemsLeft qs
   items_behind = record { items = first.others; each = first.each; short = all_back Within (item_names first.value) (gather item_names first.others) here }
+
+-- the same of a part by its number
+pub items_within_part : {s : List ℕ} {i : ℕ} {p : List ℕ} → ItemsWithin s → IsPart 2 s i p → ItemWithin p
+items_within_part {s} {i} l d = record {
+  is = valued_is item d l.is;
+  short = λ x h. held {f = list_of 2 item} {s = s} l.is (λ xs k.
+      let t = valued item d k in
+      ap (λ (y : Item). all Within (item_names y)) (held_once item h t.holds) ∙ all_gather Within item_names i xs (l.short xs k) t.rest);
+}
 
 -- s is a name
 pub record Called (s : List ℕ) : Type 0 where

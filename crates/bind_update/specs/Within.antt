@@ -105,6 +105,15 @@ module _ {s : List ℕ} (h : ShortAssignments s) where
   pub assignments_part : {i at e : ℕ} → Stepped 2 s i at e → ShortAssignment (take (e - at) (drop at s))
   assignments_part {i} {at} {e} d = assignment_short {i = i} (record { few = omega (arith, d.next.few); is = d.is })
 
+  -- the same of a part by its number
+  pub assignments_entry : {i : ℕ} {p : List ℕ} → IsPart 2 s i p → ShortAssignment p
+  assignments_entry {i} d = record {
+    is = valued_is assignment d h.is;
+    short = λ a k. held h.is (λ xs q.
+        let t = valued assignment d q in
+        ap ShortNames (held_once assignment k t.holds) ∙ all_turn ShortNames i xs (h.short xs q) t.rest);
+  }
+
   pub assignments_targets : AllShort of.Targets s
   assignments_targets = record {
     is = h.is;

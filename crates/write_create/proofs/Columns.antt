@@ -5,7 +5,7 @@ use mathlib.Core.Bool.{Bool, true, false, not, ◌&&◌, and-false, and-true}
 use mathlib.Core.List.{List, [], ◌∷◌, map}
 use Prim.Native.Nat.{ℕ, zero, suc, ◌+◌, ◌-◌, ◌*◌, ◌≤◌}
 use native.Mathlib.Omega.{arith}
-use lib.ListN.{length, take, drop, length-map}
+use lib.ListN.{length, drop, length-map}
 use Rattle.bytes_format.proofs.Formats.{list_of}
 use Rattle.image_value.specs.Parts.{column_schema}
 use Rattle.image_bound.specs.Made.{column_of}
@@ -13,11 +13,11 @@ use Rattle.image_bound.specs.Bundles.{bodies, list_length}
 use Rattle.image_bound.specs.Spelt.{column_length}
 use Rattle.image_bound.specs.Beside.{Listed, listed_space, wrote_long}
 use Rattle.bytes_wire.specs.Sets.{Wrote}
-use Rattle.bytes_bundle.specs.Bundle.{Stepped}
-use Rattle.bytes_bundle.specs.Held.{Holds, held, held_once, is_held, turn}
+use Rattle.bytes_bundle.specs.Held.{Holds, held, held_once, is_held}
+use Rattle.bytes_bundle.specs.Numbered.{IsPart, valued}
 use Rattle.bind_repeats.specs.declared.Of.TheVariants as of
 use Rattle.bind_repeats.specs.Entries.{ShortIn, AllShort, short_name}
-use Rattle.bind_repeats.specs.Short.{short_part}
+use Rattle.bind_repeats.specs.Short.{short_entry}
 use borrow.Author.Tests.{le-leb, leb-true}
 use mathlib.Core.Option.{some}
 use Rattle.bind_repeats.specs.Repeats.{drop_map}
@@ -113,10 +113,10 @@ pub record ColumnRoom (p : List ℕ) (to body : ℕ) (o' : List ℕ) : Type 0 wh
   pub inside : body ≤ length o'
 
 module _ {s : List ℕ} {ids : List ColumnId} {at : ℕ} {o : List ℕ} {i lengths to body : ℕ} {o' : List ℕ} (b : ColumnsSoFar s ids at o i lengths to body o')
-    {from e : ℕ} (d : Stepped 2 s i from e) where
-  pub column_room : ColumnRoom (take (e - from) (drop from s)) to body o'
+    {p : List ℕ} (d : IsPart 2 s i p) where
+  pub column_room : ColumnRoom p to body o'
   column_room = held b.short.is (λ cs h.
-      let t = turn {f = column_definition} d h in
+      let t = valued column_definition d h in
       let z = listed_space (b.listed cs h) (made_next ids cs i t.rest) in
       let r = b.room.fits cs h in
       let m = made_room ids cs in
@@ -132,12 +132,12 @@ module _ {s : List ℕ} {ids : List ColumnId} {at : ℕ} {o : List ℕ} {i lengt
 
   -- behind the column
   pub column_went : {r : ℕ} {o'' : List ℕ}
-      → ((v : ColumnDefinition) → Holds column_definition (take (e - from) (drop from s)) v → Wrote o' body ((column_schema 4).write (outside_null ids (schema i v))) r o'')
+      → ((v : ColumnDefinition) → Holds column_definition p v → Wrote o' body ((column_schema 4).write (outside_null ids (schema i v))) r o'')
       → (body ≤ r) × (r - body ≤ 150) × (to + 4 ≤ length o'')
   column_went w = held b.short.is (λ cs h.
-      let t = turn {f = column_definition} d h in
+      let t = valued column_definition d h in
       let x = w t.value t.holds in
-      let q = leb-true (length t.value.name.text) 128 ((short_part b.short d).short t.value t.holds) in
+      let q = leb-true (length t.value.name.text) 128 ((short_entry b.short d).short t.value t.holds) in
       let n = column_size ids i t.value in
       let l = wrote_long x in
       (omega (arith, x.end), omega (arith, x.end, n, q), omega (arith, l, column_room.entry, column_room.inside)))

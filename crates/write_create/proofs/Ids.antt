@@ -1,16 +1,14 @@
 -- The ids of a key, gathered one by one.
 -- Assumes nothing.
-use mathlib.Core.Path.{◌≡◌, refl, sym, ap, ap₂, ◌∙◌, subst}
-use mathlib.Core.Bool.{Bool, true, false, ◌||◌, or-true, or-false, or_assoc}
+use mathlib.Core.Path.{◌≡◌, sym, ap, ap₂, ◌∙◌, subst}
+use mathlib.Core.Bool.{Bool, true, false, ◌||◌, or-false, or_assoc}
 use mathlib.Core.List.{List, [], ◌∷◌, ◌++◌, map}
 use mathlib.Core.Option.{Option, none, some, some-injective, none-ne-some}
 use Prim.Native.Nat.{ℕ, ◌+◌, ◌≤◌, ◌<◌}
 use native.Mathlib.Numerals.{add-one}
 use native.Mathlib.Omega.{arith}
-use lib.Dec.{eqb}
-use borrow.Author.Tests.{ne_eqb, eqb-true, eqb-false}
-use lib.ListN.{length, get_or, take, drop, set, replicate, drop_of_length-le, length-drop, length-set, get_or-replicate}
-use lib.Seq.{take-suc, take-suc-set, length-take-le, get_or-set_same, get_or-set_other}
+use lib.ListN.{length, get_or, take, drop, set, replicate, drop_of_length-le, length-drop, get_or-replicate}
+use lib.Seq.{take-suc, take-suc-set, length-take-le}
 use Rattle.bytes_format.proofs.Formats.{list_of}
 use Rattle.bytes_bundle.specs.Held.{Holds, held, list_count}
 use Rattle.bind_repeats.specs.Repeats.{drop_next}
@@ -32,26 +30,6 @@ use Rattle.bind_create.specs.Within.{FewColumns}
 use Rattle.write_create.specs.Parts.{id_at, Marked, KeyMarks}
 
 -- ---- the columns that ids stand for
-
-module _ (old : List Bool) (id : ColumnId) where
-  -- column n has the id
-  pub mark_hit : (n : ℕ) → n < length old → id.0 ≡ n + 1 → Marked old id (set old n true)
-  mark_hit n h e = record { long = length-set old n true; is = λ i l. at i (eqb (i + 1) id.0) refl }
-    where
-      at : (i : ℕ) (b : Bool) → eqb (i + 1) id.0 ≡ b → get_or (set old n true) i false ≡ (get_or old i false || same_id (id_at i) id)
-      at i true k =
-          let s : i ≡ n = omega (arith, e, eqb-true (i + 1) id.0 k) in
-          ap (λ (j : ℕ). get_or (set old n true) j false) s ∙ get_or-set_same old n true false h ∙ sym (ap (λ (b : Bool). get_or old i false || b) k ∙ or-true (get_or old i false))
-      at i false k =
-          let d : i ≡ n → ⊥ = λ s. eqb-false (i + 1) id.0 k (omega (arith, e, s)) in
-          get_or-set_other old n i true false d ∙ sym (ap (λ (b : Bool). get_or old i false || b) k ∙ or-false (get_or old i false))
-
-  -- no column has it
-  pub mark_none : ((i : ℕ) → i < 64 → id.0 ≡ i + 1 → ⊥) → Marked old id old
-  mark_none f = record {
-    long = refl;
-    is = λ i l. sym (ap (λ (b : Bool). get_or old i false || b) (ne_eqb (i + 1) id.0 (λ e. f i l (sym e))) ∙ or-false (get_or old i false));
-  }
 
 any_last : {A : Type 0} (p : A → Bool) (l : List A) (x : A) → any p (l ++ (x ∷ [])) ≡ (any p l || p x)
 any_last p [] x = or-false (p x)

@@ -105,27 +105,20 @@ fn mark_id(marks: &mut [bool; 64], id: ColumnId)
     ensures { Marked marks.old id marks.new }
 {
     let wanted = id.0;
-    let mut i = 0;
-    while i < 64 {
-        if wanted == i as u64 + 1 {
-            marks[i] = true;
-            return;
-        }
-        i += 1;
+    if wanted == 0 || 64 < wanted {
+        return;
     }
+    marks[wanted as usize - 1] = true;
 }
 
-// For each column whether the first n ids have its own. An array of ids can't be lent, and would be copied for each column that asked.
+// For each column whether the first n ids have its own: made once, so that no column searches them.
 fn key_marks(ids: [ColumnId; 64], n: usize) -> [bool; 64]
     requires { n ≤ 64 }
     ensures { KeyMarks result (take n ids) }
 {
     let mut marks = [false; 64];
-    let mut k = 0;
-    while k < n {
-        let id = ids[k];
-        mark_id(&mut marks, id);
-        k += 1;
+    for id in &ids[..n] {
+        mark_id(&mut marks, *id);
     }
     marks
 }
@@ -141,15 +134,10 @@ fn put_columns(out: &mut [u8], at: usize, s: &[u8], ids: [ColumnId; 64], key_len
     let lengths = put_count(out, at, n);
     let mut to = lengths;
     let mut body = lengths + 4 * n;
-    let mut from = bytes_bundle::first(s, 2);
-    let mut i = 0;
-    while i < n {
-        let end = bytes_bundle::next(s, 2, i, from);
-        let after = put_column(out, body, &s[from..end], i, marks[i]);
+    for (i, d) in bytes_bundle::iter(s, 2).enumerate() {
+        let after = put_column(out, body, d, i, marks[i]);
         to = put_count(out, to, after - body);
         body = after;
-        from = end;
-        i += 1;
     }
     body
 }
@@ -176,14 +164,8 @@ fn name_ids(columns: &[u8], names: &[u8]) -> [ColumnId; 64]
 {
     let none = ColumnId(0);
     let mut ids = [none; 64];
-    let n = bytes_bundle::parts(names, 2);
-    let mut at = bytes_bundle::first(names, 2);
-    let mut k = 0;
-    while k < n {
-        let end = bytes_bundle::next(names, 2, k, at);
-        ids[k] = id_of(columns, &names[at..end]);
-        at = end;
-        k += 1;
+    for (k, n) in bytes_bundle::iter(names, 2).enumerate() {
+        ids[k] = id_of(columns, n);
     }
     ids
 }

@@ -34,10 +34,8 @@ pub fn bound_nodes(e: &[u8]) -> usize
 {
     let n = nodes(e);
     let mut sum = 0;
-    let mut i = 0;
-    while i < n {
+    for i in 0..n {
         sum += own_nodes(e, i);
-        i += 1;
     }
     sum
 }

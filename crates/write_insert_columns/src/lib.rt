@@ -41,15 +41,10 @@ pub fn put_targets(out: &mut [u8], at: usize, t: &[u8], names: &[u8]) -> usize
     let start = put_length(out, at, n);
     let mut lengths = start;
     let mut to = start + 4 * n;
-    let mut from = bytes_bundle::first(names, 2);
-    let mut i = 0;
-    while i < n {
-        let end = bytes_bundle::next(names, 2, i, from);
-        let next = put_target(out, to, t, &names[from..end]);
+    for name in bytes_bundle::iter(names, 2) {
+        let next = put_target(out, to, t, name);
         lengths = put_length(out, lengths, next - to);
         to = next;
-        from = end;
-        i += 1;
     }
     to
 }

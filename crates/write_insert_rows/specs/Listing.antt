@@ -1,6 +1,6 @@
 -- A list written in a loop over a list that is read: each part of the one gives a part of the other.
 -- Assumes nothing.
-use Rattle.std.specs.Prelude.{◌≡◌, refl, take}
+use Rattle.std.specs.Prelude.{◌≡◌, refl}
 use Rattle.std.proofs.Common.{sym, ◌∙◌, arith}
 use Rattle.std.proofs.Math.Path.{ap, subst}
 use mathlib.Core.List.{List, [], ◌∷◌}
@@ -10,8 +10,9 @@ use Rattle.bytes_wire.specs.Le.{le}
 use Rattle.bytes_wire.specs.Sets.{Wrote}
 use Rattle.bytes_format.specs.Format.{Format}
 use Rattle.bytes_format.proofs.Formats.{list_of}
-use Rattle.bytes_bundle.specs.Bundle.{parts_of, Stepped}
-use Rattle.bytes_bundle.specs.Held.{Is, Holds, Along, turn, part_is, is_held, held, held_once, list_count}
+use Rattle.bytes_bundle.specs.Bundle.{parts_of}
+use Rattle.bytes_bundle.specs.Held.{Is, Holds, is_held, held, held_once, list_count}
+use Rattle.bytes_bundle.specs.Numbered.{IsPart, valued, valued_is}
 use Rattle.rules.specs.declared.Refusal.{Refusal}
 use Rattle.rules.specs.Answers.{Answer, given, refused, each}
 use Rattle.rules.proofs.Theorems.Answered.{never_given}
@@ -105,11 +106,11 @@ module _ {A B : Type 0} {f : Format A} {F : A → Answer B} {s : List ℕ} where
   making_count : {bs : List B} → Making f F s bs → length bs ≡ length (parts_of 2 s)
   making_count w = held w.is (λ xs h. sym (each_count F xs (w.gives xs h)) ∙ list_count f s h)
 
-  made : {bs : List B} {n at e : ℕ} → Making f F s bs → Stepped 2 s n at e → Made f F (take (e - at) (drop at s)) bs n
-  made {n = n} {at = at} {e = e} w d = held w.is (λ xs h.
-      let t = turn {f = f} d h in
+  made : {bs : List B} {n : ℕ} {p : List ℕ} → Making f F s bs → IsPart 2 s n p → Made f F p bs n
+  made {n = n} {p = p} w d = held w.is (λ xs h.
+      let t = valued f d h in
       let u = each_turn F n xs (w.gives xs h) t.rest in
-      record { value = u.0; rest = u.2; gives = λ a k. ap F (held_once f {s = take (e - at) (drop at s)} k t.holds) ∙ u.1 })
+      record { value = u.0; rest = u.2; gives = λ a k. ap F (held_once f {s = p} k t.holds) ∙ u.1 })
 
 -- the number of the parts and the length of each have room
 pub list_room : {A B : Type 0} (f : Format A) (F : A → Answer B) (g : Format B) {s o : List ℕ} {at n : ℕ} → Gives (list_of 2 f) s (each F) (list_of 4 g) at o
@@ -129,7 +130,7 @@ module _ {A B : Type 0} {f : Format A} {F : A → Answer B} {g : Format B} {s o 
   listing_none {i} {j} {n} h c = record { at = λ bs w. listed_none (omega (arith, h, c, making_count w)) }
 
   module _ {n i k l : ℕ} {o₁ : List ℕ} (b : Listing f F g s o n i k l o₁) where
-    module _ {at e : ℕ} (d : Stepped 2 s n at e) {start : ℕ} {o₀ : List ℕ} (w : Gives (list_of 2 f) s (each F) (list_of 4 g) start o₀) where
+    module _ {p : List ℕ} (d : IsPart 2 s n p) {start : ℕ} {o₀ : List ℕ} (w : Gives (list_of 2 f) s (each F) (list_of 4 g) start o₀) where
       making : Making f F s w.value
       making = record { is = w.is; gives = w.gives }
 
@@ -138,36 +139,38 @@ module _ {A B : Type 0} {f : Format A} {F : A → Answer B} {g : Format B} {s o 
 
       module _ (c : ℕ) (q : Wrote o₀ start (le 4 c) i o) where
         -- there is room for the part
-        pub listing_gives : Gives f (take (e - at) (drop at s)) F g l o₁
+        pub listing_gives : Gives f p F g l o₁
         listing_gives =
             let m = made making d in
             let x = listed_space (b.at w.value making) m.rest in
             record {
-              is = part_is {f = f} d w.is;
+              is = valued_is f d w.is;
               value = m.value;
               gives = m.gives;
               room = omega (arith, x.part, x.long, w.room, list_length g w.value, q.end, wrote_long q);
             }
 
         -- and then for its length
-        pub listing_room : {l' : ℕ} {o₂ : List ℕ} → Puts f (take (e - at) (drop at s)) F g o₁ l l' o₂ → k + 4 ≤ length o₂
-        listing_room p = omega (arith, listing_entry, listing_gives.room, puts_long listing_gives p)
+        pub listing_room : {l' : ℕ} {o₂ : List ℕ} → Puts f p F g o₁ l l' o₂ → k + 4 ≤ length o₂
+        listing_room r = omega (arith, listing_entry, listing_gives.room, puts_long listing_gives r)
 
     -- the next part, then its length
-    pub listing_more : {at e : ℕ} → Stepped 2 s n at e → {o₂ o₃ : List ℕ} {k' l' : ℕ} → Puts f (take (e - at) (drop at s)) F g o₁ l l' o₂ → Wrote o₂ k (le 4 (l' - l)) k' o₃
+    pub listing_more : {p : List ℕ} → IsPart 2 s n p → {o₂ o₃ : List ℕ} {k' l' : ℕ} → Puts f p F g o₁ l l' o₂ → Wrote o₂ k (le 4 (l' - l)) k' o₃
         → Listing f F g s o (n + 1) i k' l' o₃
-    listing_more d p q = record {
+    listing_more d r q = record {
       at = λ bs v.
           let m = made v d in
-          held v.is (λ xs h. listed_more (b.at bs v) m.rest (p.at (turn {f = f} d h).value m.value (turn d h).holds (m.gives (turn d h).value (turn d h).holds)) q);
+          held v.is (λ xs h.
+          let t = valued f d h in
+          listed_more (b.at bs v) m.rest (r.at t.value m.value t.holds (m.gives t.value t.holds)) q);
     }
 
     -- all parts, behind their number
-    pub listing_all : {o₀ : List ℕ} {start c at : ℕ} → Along s c n at → c ≤ n → Wrote o₀ start (le 4 c) i o → Is (list_of 2 f) s
+    pub listing_all : {o₀ : List ℕ} {start c : ℕ} → c ≡ length (parts_of 2 s) → length (parts_of 2 s) ≤ n → Wrote o₀ start (le 4 c) i o → Is (list_of 2 f) s
         → Puts (list_of 2 f) s (each F) (list_of 4 g) o₀ start l o₁
-    listing_all a h w is = record {
+    listing_all q h w is = record {
       at = λ xs bs k e.
           let m : Making f F s bs = record { is = is; gives = λ cs j. ap (each F) (held_once (list_of 2 f) {s = s} j k) ∙ e } in
           let z = making_count m in
-          listed_all (b.at bs m) (omega (arith, z, a.count)) w (omega (arith, z, a.count));
+          listed_all (b.at bs m) (omega (arith, z, q, h)) w (omega (arith, z, q));
     }

@@ -46,15 +46,10 @@ fn put_row(out: &mut [u8], at: usize, row: &[u8]) -> usize
     let start = put_length(out, at, n);
     let mut lengths = start;
     let mut to = start + 4 * n;
-    let mut from = bytes_bundle::first(row, 2);
-    let mut j = 0;
-    while j < n {
-        let end = bytes_bundle::next(row, 2, j, from);
-        let next = put_value(out, to, &row[from..end]);
+    for e in bytes_bundle::iter(row, 2) {
+        let next = put_value(out, to, e);
         lengths = put_length(out, lengths, next - to);
         to = next;
-        from = end;
-        j += 1;
     }
     to
 }
@@ -68,15 +63,10 @@ pub fn put_rows(out: &mut [u8], at: usize, rows: &[u8]) -> usize
     let start = put_length(out, at, n);
     let mut lengths = start;
     let mut to = start + 4 * n;
-    let mut from = bytes_bundle::first(rows, 2);
-    let mut i = 0;
-    while i < n {
-        let end = bytes_bundle::next(rows, 2, i, from);
-        let next = put_row(out, to, &rows[from..end]);
+    for row in bytes_bundle::iter(rows, 2) {
+        let next = put_row(out, to, row);
         lengths = put_length(out, lengths, next - to);
         to = next;
-        from = end;
-        i += 1;
     }
     to
 }

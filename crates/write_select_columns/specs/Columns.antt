@@ -1,6 +1,6 @@
 -- Columns of a table, written: one by its image in the table, one by its name, all of them.
 -- Assumes nothing.
-use Rattle.std.specs.Prelude.{◌≡◌, refl, Bool, List, [], ◌∷◌, ◌++◌, ℕ, suc, ◌+◌, ◌-◌, ◌≤◌, length, drop, Option as Maybe, Some, None}
+use Rattle.std.specs.Prelude.{◌≡◌, refl, Bool, List, [], ◌∷◌, ◌++◌, ℕ, suc, ◌+◌, ◌≤◌, length, drop, Option as Maybe, Some, None}
 use Rattle.std.proofs.Common.{sym, ap, ap₂, ◌∙◌, subst, add-one, arith, length-append, drop_of_length-le}
 use Rattle.std.proofs.Math.Option.{some, some-injective, none-ne-some}
 use Rattle.bytes_format.proofs.Formats.{list_of}

@@ -62,18 +62,12 @@ fn put_columns(out: &mut [u8], row: usize, to: usize, id: TableId, s: &[u8]) -> 
     ensures { (v : TableSchema) → id ≡ v.id → Holds (list_of 2 (column_schema 2)) s.now v.columns
         → Laid bound_column_ref (bound_columns v) out.old row to result.row result.to out.new }
 {
-    let n = bytes_bundle::parts(s, 2);
     let mut entry = row;
     let mut part = to;
-    let mut at = bytes_bundle::first(s, 2);
-    let mut i = 0;
-    while i < n {
-        let end = bytes_bundle::next(s, 2, i, at);
-        let next = put_column(out, part, id, i, &s[at..end]);
+    for (i, c) in bytes_bundle::iter(s, 2).enumerate() {
+        let next = put_column(out, part, id, i, c);
         entry = bytes_wire::put(out, entry, 4, (next - part) as u64);
         part = next;
-        at = end;
-        i += 1;
     }
     Cursor {
         row: entry,
@@ -138,15 +132,9 @@ fn count_columns(t: &[u8], s: &[u8]) -> usize
     ensures { (v : TableSchema) (xs : List Item) (cs : List BoundColumnRef) → Holds table t.now v → Holds (list_of 2 layout.item) s.now xs
         → projection v xs ≡ given cs → result ≡ length cs }
 {
-    let n = bytes_bundle::parts(s, 2);
     let mut sum = 0;
-    let mut at = bytes_bundle::first(s, 2);
-    let mut i = 0;
-    while i < n {
-        let end = bytes_bundle::next(s, 2, i, at);
-        sum += item_columns(t, &s[at..end]);
-        at = end;
-        i += 1;
+    for item in bytes_bundle::iter(s, 2) {
+        sum += item_columns(t, item);
     }
     sum
 }
@@ -156,18 +144,12 @@ fn put_items(out: &mut [u8], row: usize, to: usize, t: &[u8], s: &[u8]) -> Curso
     ensures { (v : TableSchema) (xs : List Item) (cs : List BoundColumnRef) → Holds table t.now v → Holds (list_of 2 layout.item) s.now xs
         → projection v xs ≡ given cs → Laid bound_column_ref cs out.old row to result.row result.to out.new }
 {
-    let items = bytes_bundle::parts(s, 2);
     let mut entry = row;
     let mut part = to;
-    let mut at = bytes_bundle::first(s, 2);
-    let mut i = 0;
-    while i < items {
-        let end = bytes_bundle::next(s, 2, i, at);
-        let next = put_item(out, entry, part, t, &s[at..end]);
+    for item in bytes_bundle::iter(s, 2) {
+        let next = put_item(out, entry, part, t, item);
         entry = next.row;
         part = next.to;
-        at = end;
-        i += 1;
     }
     Cursor {
         row: entry,

@@ -75,15 +75,10 @@ fn put_assignments(out: &mut [u8], at: usize, t: &[u8], s: &[u8]) -> usize
     let lengths = put_count(out, at, n);
     let mut to = lengths;
     let mut body = lengths + 4 * n;
-    let mut from = bytes_bundle::first(s, 2);
-    let mut i = 0;
-    while i < n {
-        let end = bytes_bundle::next(s, 2, i, from);
-        let after = put_assignment(out, body, t, &s[from..end]);
+    for a in bytes_bundle::iter(s, 2) {
+        let after = put_assignment(out, body, t, a);
         to = bytes_wire::put(out, to, 4, (after - body) as u64);
         body = after;
-        from = end;
-        i += 1;
     }
     body
 }

@@ -1,10 +1,6 @@
 -- `counts::bound_nodes` meets its contract. The invariant: the nodes passed are counted.
-use Prim.Native.Nat.{◌-◌}
 use Rattle.write_expression.specs.Counts.{Counting}
 use Rattle.write_expression.proofs.counts.bound_nodes.Given as goal
 
 abbrev pub invariant-loop-i : goal.invariant-loop-i
 invariant-loop-i l = Counting l.e l.n l.sum l.i
-
-abbrev pub decreases-loop-i : goal.decreases-loop-i
-decreases-loop-i l = l.n - l.i
