@@ -32,8 +32,8 @@ run_bound-requires c =
     let z = sized_is bound_statement (c.analyze.ensures h.tables h.value h.lists h.holds) c.in_ok-analyze.was in
     record { both = h; value = z.value; gives = z.gives }
 
-pub returns-in-Ok : goal.returns-in-Ok
-returns-in-Ok c = c.run_bound.ensures
+pub returns : goal.returns
+returns c = c.run_bound.ensures
 
 pub returns-in_err-analyze : goal.returns-in_err-analyze
 returns-in_err-analyze c =
