@@ -6,7 +6,7 @@ use mathlib.Core.List.{List}
 use mathlib.Core.Option.{Option, some, none}
 use Prim.Native.Nat.{ℕ, ◌-◌, ◌<◌, ◌≤◌}
 use native.Mathlib.Omega.{arith}
-use Rattle.std.specs.Prelude.{Option as Maybe}
+use Rattle.std.specs.Prelude.{Option as Maybe, Some, None}
 use lib.Dec.{leb, ltb, eqb, lit<}
 use borrow.Author.Tests.{leb-true, leb-false, ltb-true, ltb-false, eqb-true, eqb-false}
 use Rattle.bytes_wire.specs.Le.{Bytes}
@@ -25,10 +25,10 @@ use Rattle.rules.specs.Lists.{Text}
 use Rattle.rules.specs.Marking.{sign, leaf_number, number_in, together, signed_number}
 use Rattle.rules.specs.Numbers.{integer_literal}
 use Rattle.rules.specs.Rows.{Row}
-use Rattle.rules.specs.Statements.{Leaf, parentheses, Binary, Expr}
+use Rattle.rules.specs.Statements.{Leaf, parentheses, Expr}
 use Rattle.rules.specs.Tables.{TableSchema}
 use Rattle.run_values.specs.declared.Worth.{Worth}
-use Rattle.run_values.specs.Worths.{told, heard, value_of, over_one, over_two, told_then}
+use Rattle.run_values.specs.Worths.{told, heard, value_of, told_then}
 use Rattle.run_expression.specs.Works.{Works, Comes}
 use Rattle.run_expression.proofs.Arms.{among, only}
 
@@ -104,10 +104,12 @@ no_paren : {k : ℕ} → 10 ≤ k → k < 16 → un_of k ≡ parentheses → ⊥
 unfolding un_kind
 no_paren {k} lo hi h = omega (arith, un_kind_lem k (omega arith) hi, ap un_kind h)
 
-told_two : (o : Binary) (w z : Worked Value) → told (then w (λ a. then z (binary_value o a))) ≡ over_two o (told w) (told z)
-told_two o (worked a) z = told_then z (binary_value o a)
-told_two o fault z = refl
-told_two o no_rule z = refl
+-- what an operand comes to
+then_none : (w : Worked Value) (f : Value → Worked Value) {y : Maybe Worth} → heard value_of y ≡ told w → y ≡ None → none ≡ told (then w f)
+then_none w f h e = let n : none ≡ told w = ap (heard value_of) (sym e) ∙ h in rw (told_then w f, ← n)
+
+then_some : (w : Worked Value) (f : Value → Worked Value) {y : Maybe Worth} {u : Worth} → heard value_of y ≡ told w → y ≡ Some u → told (f (value_of u)) ≡ told (then w f)
+then_some w f {y} {u} h e = let n : some (value_of u) ≡ told w = ap (heard value_of) (sym e) ∙ h in rw (told_then w f, ← n)
 
 module _ (t e r : List ℕ) (i k : ℕ) (is : k ≡ (node_at e i).kind) (w : Maybe Worth) where
   pub leaf_says : k < 9 → ((v : TableSchema) → Holds table t v → (x : Row) → Holds row r x → heard value_of w ≡ told (leaf_value v x (leaf_of k (node_at e i).text))) → Works t e i r w
@@ -131,19 +133,40 @@ module _ (t e r : List ℕ) (i k : ℕ) (is : k ≡ (node_at e i).kind) (w : May
       let u = un_at (node_at e) i k is a o (omega arith) (omega arith) in
       rw (u.is, paren_of z, parens_none u.operand, then_same (evaluate v x u.operand)) (s v h x g u.operand u.root)
 
-  pub unary_says : 10 ≤ k → k < 16 → signs k (node_at e (i - 1)) ≡ false → (y : Maybe Worth) → Works t e (i - 1) r y
-      → heard value_of w ≡ over_one (un_of k) (heard value_of y) → Works t e i r w
-  unfolding evaluate
-  unary_says lo hi f y s q v h x g a o =
-      let u = un_at (node_at e) i k is a o (omega arith) hi in
-      rw (u.is, unsigned (node_at e) (i - 1) k u.operand u.root (omega arith) hi f, told_then (evaluate v x u.operand) (unary_value (un_of k)), ← s v h x g u.operand u.root) q
+  module _ (lo : 10 ≤ k) (hi : k < 16) (f : signs k (node_at e (i - 1)) ≡ false) (y : Maybe Worth) (s : Works t e (i - 1) r y) where
+    unary_by : ((v : TableSchema) (x : Row) (b : Expr) → heard value_of y ≡ told (evaluate v x b) → heard value_of w ≡ told (then (evaluate v x b) (unary_value (un_of k)))) → Works t e i r w
+    unfolding evaluate
+    unary_by q v h x g a o =
+        let u = un_at (node_at e) i k is a o (omega arith) hi in
+        rw (u.is, unsigned (node_at e) (i - 1) k u.operand u.root (omega arith) hi f) (q v x u.operand (s v h x g u.operand u.root))
 
-  pub binary_says : 16 ≤ k → (n : ℕ) → n ≡ (node_at e (i - 1)).span → (y : Maybe Worth) → Works t e (i - 1 - n) r y → (z : Maybe Worth) → Works t e (i - 1) r z
-      → heard value_of w ≡ over_two (bin_of k) (heard value_of y) (heard value_of z) → Works t e i r w
-  unfolding evaluate
-  binary_says lo n d y s z s' q v h x g a o =
-      let u = bin_at (node_at e) i k is n d a o lo in
-      rw (u.is, told_two (bin_of k) (evaluate v x u.left) (evaluate v x u.right), ← s v h x g u.left u.left_root, ← s' v h x g u.right u.right_root) q
+    pub unary_none : y ≡ None → w ≡ None → Works t e i r w
+    unary_none p q = unary_by (λ v x b z. rw q (then_none (evaluate v x b) (unary_value (un_of k)) z p))
+
+    pub unary_says : {u : Worth} → y ≡ Some u → heard value_of w ≡ told (unary_value (un_of k) (value_of u)) → Works t e i r w
+    unary_says p q = unary_by (λ v x b z. q ∙ then_some (evaluate v x b) (unary_value (un_of k)) z p)
+
+  module _ (lo : 16 ≤ k) (n : ℕ) (d : n ≡ (node_at e (i - 1)).span) (y : Maybe Worth) (s : Works t e (i - 1 - n) r y) where
+    binary_by : ((v : TableSchema) → Holds table t v → (x : Row) → Holds row r x → (b c : Expr) → heard value_of y ≡ told (evaluate v x b) → Root (node_at e) (i - 1) c
+        → heard value_of w ≡ told (then (evaluate v x b) (λ p. then (evaluate v x c) (binary_value (bin_of k) p)))) → Works t e i r w
+    unfolding evaluate
+    binary_by q v h x g a o =
+        let u = bin_at (node_at e) i k is n d a o lo in
+        rw u.is (q v h x g u.left u.right (s v h x g u.left u.left_root) u.right_root)
+
+    pub left_none : y ≡ None → w ≡ None → Works t e i r w
+    left_none p q = binary_by (λ v h x g b c z o. rw q (then_none (evaluate v x b) _ z p))
+
+    module _ {l : Worth} (p : y ≡ Some l) (z : Maybe Worth) (s' : Works t e (i - 1) r z) where
+      pub right_none : z ≡ None → w ≡ None → Works t e i r w
+      right_none q m =
+          binary_by (λ v h x g b c j o.
+          rw m (then_none (evaluate v x c) (binary_value (bin_of k) (value_of l)) (s' v h x g c o) q ∙ then_some (evaluate v x b) _ j p))
+
+      pub binary_says : {u : Worth} → z ≡ Some u → heard value_of w ≡ told (binary_value (bin_of k) (value_of l) (value_of u)) → Works t e i r w
+      binary_says q m =
+          binary_by (λ v h x g b c j o.
+          m ∙ then_some (evaluate v x c) (binary_value (bin_of k) (value_of l)) (s' v h x g c o) q ∙ then_some (evaluate v x b) _ j p)
 
 -- ---- a whole expression
 

@@ -3,7 +3,7 @@
 use mathlib.Core.Path.{◌∙◌, sym}
 use native.Mathlib.Omega.{arith}
 use Rattle.run_expression.proofs.Places.{last, first, kinds}
-use Rattle.run_expression.proofs.Steps.{literal_says, parens_says, unary_says, binary_says}
+use Rattle.run_expression.proofs.Steps.{literal_says, parens_says, unary_none, unary_says, left_none, right_none, binary_says}
 use Rattle.run_expression.proofs.+evaluate_evaluate_binary_evaluate_unary.Goals as goal
 
 pub evaluate-overflow_sub-i : goal.evaluate-overflow_sub-i
@@ -26,13 +26,21 @@ pub evaluate_binary-overflow_sub-left : goal.evaluate_binary-overflow_sub-left
 evaluate_binary-overflow_sub-left t c =
     let l = first c.requires.workable c.type_inv.e _ c.requires.k_value.0 c.requires.k_value.1 _ c.span.ensures in omega (arith, l.0)
 
-pub evaluate_binary-evaluate-a-requires : goal.evaluate_binary-evaluate-a-requires
-evaluate_binary-evaluate-a-requires t c =
+pub evaluate_binary-evaluate-requires : goal.evaluate_binary-evaluate-requires
+evaluate_binary-evaluate-requires t c =
     let l = first c.requires.workable c.type_inv.e _ c.requires.k_value.0 c.requires.k_value.1 _ c.span.ensures in (omega (arith, l.0), l.1)
 
-pub evaluate_binary-evaluate-b-requires : goal.evaluate_binary-evaluate-b-requires
-evaluate_binary-evaluate-b-requires t c =
+pub evaluate_binary-returns-in_err-a-clause-works : goal.evaluate_binary-returns-in_err-a-clause-works
+evaluate_binary-returns-in_err-a-clause-works t c =
+    left_none c.args.t.now c.args.e.now c.args.r.now c.args.i _ c.requires.k_value.0 _ c.requires.k_value.1 _ c.span.ensures _ c.evaluate.ensures.works c.in_err-a.was c.from_residual.ensures
+
+pub evaluate_binary-evaluate-requires-2 : goal.evaluate_binary-evaluate-requires-2
+evaluate_binary-evaluate-requires-2 t c =
     let o = last c.requires.workable c.type_inv.e _ c.requires.k_value.0 (omega arith) in (omega (arith, o.0), o.1)
+
+pub evaluate_binary-returns-in_err-b-clause-works : goal.evaluate_binary-returns-in_err-b-clause-works
+evaluate_binary-returns-in_err-b-clause-works t c =
+    right_none c.args.t.now c.args.e.now c.args.r.now c.args.i _ c.requires.k_value.0 _ c.requires.k_value.1 _ c.span.ensures _ c.evaluate.ensures.works c.in_ok-a.was _ c.evaluate-2.ensures.works c.in_err-b.was c.from_residual-in_err-b.ensures
 
 pub evaluate_binary-two_operands-requires : goal.evaluate_binary-two_operands-requires
 evaluate_binary-two_operands-requires t c =
@@ -40,7 +48,7 @@ evaluate_binary-two_operands-requires t c =
 
 pub evaluate_binary-returns-clause-works : goal.evaluate_binary-returns-clause-works
 evaluate_binary-returns-clause-works t c =
-    binary_says c.args.t.now c.args.e.now c.args.r.now c.args.i _ c.requires.k_value.0 _ c.requires.k_value.1 _ c.span.ensures _ c.evaluate-a.ensures.works _ c.evaluate-b.ensures.works c.two_operands.ensures.value
+    binary_says c.args.t.now c.args.e.now c.args.r.now c.args.i _ c.requires.k_value.0 _ c.requires.k_value.1 _ c.span.ensures _ c.evaluate.ensures.works c.in_ok-a.was _ c.evaluate-2.ensures.works c.in_ok-b.was c.two_operands.ensures.value
 
 pub evaluate_unary-overflow_sub-below : goal.evaluate_unary-overflow_sub-below
 evaluate_unary-overflow_sub-below t c =
@@ -54,6 +62,10 @@ pub evaluate_unary-evaluate-requires : goal.evaluate_unary-evaluate-requires
 evaluate_unary-evaluate-requires t c =
     let o = last c.requires.workable c.type_inv.e _ c.requires.k_value.0 (omega arith) in (omega (arith, o.0), o.1)
 
+pub evaluate_unary-returns-in_err-evaluate-clause-works : goal.evaluate_unary-returns-in_err-evaluate-clause-works
+evaluate_unary-returns-in_err-evaluate-clause-works t c =
+    unary_none c.args.t.now c.args.e.now c.args.r.now c.args.i _ c.requires.k_value.0 _ c.requires.k_value.1.0 c.requires.k_value.1.1 (sym c.signs_number.ensures ∙ c.if-signs_number.false) _ c.evaluate.ensures.works c.in_err-evaluate.was c.from_residual.ensures
+
 pub evaluate_unary-returns-clause-works : goal.evaluate_unary-returns-clause-works
 evaluate_unary-returns-clause-works t c =
-    unary_says c.args.t.now c.args.e.now c.args.r.now c.args.i _ c.requires.k_value.0 _ c.requires.k_value.1.0 c.requires.k_value.1.1 (sym c.signs_number.ensures ∙ c.if-signs_number.false) _ c.evaluate.ensures.works c.one_operand.ensures.value
+    unary_says c.args.t.now c.args.e.now c.args.r.now c.args.i _ c.requires.k_value.0 _ c.requires.k_value.1.0 c.requires.k_value.1.1 (sym c.signs_number.ensures ∙ c.if-signs_number.false) _ c.evaluate.ensures.works c.in_ok-evaluate.was c.one_operand.ensures.value
