@@ -65,8 +65,10 @@ pub fn number(s: &[u8], negative: bool) -> Result<Measured, Refusal>
     }
 }
 
-// A name stands for a column of the table, and the bound leaf holds the name that the table has.
+// A name stands for a column of the table, and the bound leaf holds the name that the table has. A call of its own, so that what is looked up
+// has no room on the stack at each level of an expression.
 #[tactic(auto, using(crate::proofs::Looked::column_long, crate::proofs::Looked::column_is, crate::proofs::Looked::column_none))]
+#[inline(never)]
 fn column(t: &[u8], quoted: bool, name: &[u8]) -> Result<Measured, Refusal>
     requires { Is table t.now × (length name.now ≤ 128) }
     ensures { (v : TableSchema) → Holds table t.now v

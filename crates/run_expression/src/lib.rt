@@ -50,7 +50,7 @@ fn evaluate_unary<'a>(t: &[u8], e: &'a [u8], i: usize, r: &'a [u8], k: u8) -> Op
     if signs_number(e, below, k) {
         return number(text(e, below), k == 13);
     }
-    one_operand(k, evaluate(t, e, below, r)?)
+    one_operand(k, Some(evaluate(t, e, below, r)?))
 }
 
 #[cycle(evaluate_evaluate_binary_evaluate_unary)]
@@ -64,7 +64,7 @@ fn evaluate_binary<'a>(t: &[u8], e: &'a [u8], i: usize, r: &'a [u8], k: u8) -> O
     let left = right - span(e, right);
     let a = evaluate(t, e, left, r)?;
     let b = evaluate(t, e, right, r)?;
-    two_operands(k, a, b)
+    two_operands(k, Some(a), Some(b))
 }
 
 // The value of a whole expression, whose root is its last node.

@@ -1,2 +1,3 @@
 pub mod Worths
 pub mod Orders
+pub mod Rules

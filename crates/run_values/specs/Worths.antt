@@ -5,7 +5,8 @@ use Rattle.std.proofs.Math.Option.{Option, none, some}
 use Rattle.bytes_format.specs.Ways.{next}
 use Rattle.rules.specs.declared.Ordinal.{Ordinal}
 use Rattle.rules.specs.Bound.{Value}
-use Rattle.rules.specs.Evaluate.{Worked, worked, fault, no_rule, then}
+use Rattle.rules.specs.Evaluate.{Worked, worked, fault, no_rule, then, unary_value, binary_value}
+use Rattle.rules.specs.Statements.{Unary, Binary}
 use Rattle.run_values.specs.declared.Worth.{Worth}
 use Rattle.run_values.specs.declared.Worth.TheVariants as worth
 
@@ -19,6 +20,13 @@ told no_rule = none
 abbrev pub heard : {A B : Type 0} → (A → B) → Maybe A → Option B
 heard f None = none
 heard f (Some a) = some (f a)
+
+-- one operand and two, where an operand that has no value leaves none
+abbrev pub over_one : Unary → Option Value → Option Value
+over_one o p = next p (λ u. told (unary_value o u))
+
+abbrev pub over_two : Binary → Option Value → Option Value → Option Value
+over_two o p q = next p (λ u. next q (λ v. told (binary_value o u v)))
 
 -- what a worth stands for
 abbrev pub value_of : Worth → Value

@@ -9,7 +9,7 @@ mod singles;
 ghost use Rattle.std.specs.Prelude.{◌≡◌, ◌≤◌, ◌<◌};
 ghost use Rattle.image_expression.specs.Place.{un_of, bin_of};
 ghost use Rattle.rules.specs.Evaluate.{unary_value, binary_value};
-ghost use Rattle.run_values.specs.Worths.{told, heard, value_of, text_size_of};
+ghost use Rattle.run_values.specs.Worths.{told, heard, value_of, text_size_of, over_one, over_two};
 
 // A text is a part of the row or of the statement: no byte of it is copied.
 #[derive(Clone, Copy)]
@@ -20,9 +20,9 @@ pub enum Worth<'a> {
     Text(&'a [u8]),
 }
 
-// A node with one operand, of kind k: 10 IS NULL, 11 IS NOT NULL, 12 +, 13 -, 14 NOT, 15 another operator.
+// What a node with one operand makes of its value, by kind k: 10 IS NULL, 11 IS NOT NULL, 12 +, 13 -, 14 NOT, 15 another operator.
 #[tactic(auto, unfolding(image_expression::specs::Place::un_of, rules::specs::Evaluate::unary_value))]
-pub fn one_operand<'a>(k: u8, w: Worth<'a>) -> Option<Worth<'a>>
+fn one_value<'a>(k: u8, w: Worth<'a>) -> Option<Worth<'a>>
     requires { (10 ≤ k) × (k < 16) }
     ensures value { heard value_of result ≡ told (unary_value (un_of k) (value_of w.entry)) }
     ensures plain { text_size_of result ≡ 0 }
@@ -37,9 +37,19 @@ pub fn one_operand<'a>(k: u8, w: Worth<'a>) -> Option<Worth<'a>>
     }
 }
 
-// A node with two operands, of kind k: 16 to 28 the operators, 29 another one. NULL in either operand gives NULL.
+// A node with one operand. A fault stays one.
+#[inline(always)]
+pub fn one_operand<'a>(k: u8, w: Option<Worth<'a>>) -> Option<Worth<'a>>
+    requires { (10 ≤ k) × (k < 16) }
+    ensures value { heard value_of result ≡ over_one (un_of k) (heard value_of w.entry) }
+    ensures plain { text_size_of result ≡ 0 }
+{
+    one_value(k, w?)
+}
+
+// What a node with two operands makes of their values, by kind k: 16 to 28 the operators, 29 another one. NULL in either gives NULL.
 #[tactic(auto, unfolding(image_expression::specs::Place::bin_of, rules::specs::Evaluate::binary_value))]
-pub fn two_operands<'a>(k: u8, a: Worth<'a>, b: Worth<'a>) -> Option<Worth<'a>>
+fn two_values<'a>(k: u8, a: Worth<'a>, b: Worth<'a>) -> Option<Worth<'a>>
     requires { (16 ≤ k) × (k < 30) }
     ensures value { heard value_of result
         ≡ told (binary_value (bin_of k) (value_of a.entry) (value_of b.entry)) }
@@ -57,4 +67,15 @@ pub fn two_operands<'a>(k: u8, a: Worth<'a>, b: Worth<'a>) -> Option<Worth<'a>>
         // operands of two kinds have no rule
         _ => None,
     }
+}
+
+// A node with two operands. A fault in either is the whole's, beside NULL too.
+#[inline(always)]
+pub fn two_operands<'a>(k: u8, a: Option<Worth<'a>>, b: Option<Worth<'a>>) -> Option<Worth<'a>>
+    requires { (16 ≤ k) × (k < 30) }
+    ensures value { heard value_of result
+        ≡ over_two (bin_of k) (heard value_of a.entry) (heard value_of b.entry) }
+    ensures plain { text_size_of result ≡ 0 }
+{
+    two_values(k, a?, b?)
 }

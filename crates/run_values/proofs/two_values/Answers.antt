@@ -1,9 +1,9 @@
--- `run_values::two_operands` meets its contract.
+-- `run_values::two_values` meets its contract.
 use native.Mathlib.Omega.{arith}
 use Rattle.run_values.proofs.Rules.{left_null, right_null, beside_int, beside_bool, beside_text}
-use Rattle.run_values.proofs.two_operands.Goals as goal
-use Rattle.run_values.proofs.two_operands.Goals.{in_default-Null-via-in-Int+in-Null, in_default-Null-via-in-Bool+in-Null, in_default-Null-via-in-Text+in-Null}
-use Rattle.run_values.proofs.two_operands.Goals.{in_default-via-in-Int+in_default, in_default-via-in-Bool+in_default, in_default-via-in-Text+in_default}
+use Rattle.run_values.proofs.two_values.Goals as goal
+use Rattle.run_values.proofs.two_values.Goals.{in_default-Null-via-in-Int+in-Null, in_default-Null-via-in-Bool+in-Null, in_default-Null-via-in-Text+in-Null}
+use Rattle.run_values.proofs.two_values.Goals.{in_default-via-in-Int+in_default, in_default-via-in-Bool+in_default, in_default-via-in-Text+in_default}
 
 pub returns-in-Null-default-clause-value : goal.returns-in-Null-default-clause-value
 returns-in-Null-default-clause-value c = rw c.in-Null-default.is-0 (left_null c.requires.0 (omega arith) _)
