@@ -30,11 +30,14 @@ pub fn put(out: &mut [u8], at: usize, k: usize, v: u64) -> usize
 }
 
 // Writes all of src from `at` on, and answers the index behind it.
+// kept: `copy_from_slice` becomes a call of C's `memmove`, which the library would need from outside.
 pub fn put_all(out: &mut [u8], at: usize, src: &[u8]) -> usize
     requires { at + length src.now ≤ length out.old }
     ensures { Wrote out.old at src.now result out.new }
 {
     let end = at + src.len();
-    out[at..end].copy_from_slice(src);
+    for (i, byte) in out[at..end].iter_mut().enumerate() {
+        *byte = src[i];
+    }
     end
 }
