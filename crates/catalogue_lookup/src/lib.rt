@@ -82,6 +82,8 @@ fn find_among<'a>(s: &'a [u8], quoted: bool, name: &[u8]) -> Option<Column<'a>>
 }
 
 // The column that a name of the statement stands for.
+// kept: one copy of the search for all its callers is faster than one in each.
+#[inline(never)]
 pub fn find_column<'a>(t: &'a [u8], quoted: bool, name: &[u8]) -> Option<Column<'a>>
     requires { Is table t.now × (length name.now ≤ 128) }
     ensures { FindsColumn t.now (canonical (named quoted name.now)) result }

@@ -1,14 +1,20 @@
 -- Lists of bytes, compared and looked through.
 -- Assumes nothing.
-use Rattle.std.proofs.Common.{◌≡◌, refl, sym, ap, ap₂, ◌∙◌, ℕ, zero, suc, ◌↔◌, ◌++◌, Bool, true, false, not, ◌&&◌, [], ◌∷◌, map, reverse, length, eqb, Decides, MatchBool, IsTrue, arith, rules}
-use Rattle.std.specs.List.{list_all, zip}
+use Rattle.std.proofs.Common.{◌≡◌, refl, sym, ap, ap₂, ◌∙◌, ℕ, zero, suc, ◌+◌, ◌-◌, ◌≤◌, ◌<◌, ◌↔◌, Bool, true, false, not, ◌&&◌, List, [], ◌∷◌, map, length, get_or, take, eqb, Option, Decides, MatchBool, IsTrue, arith, rules}
+use Rattle.std.specs.List.{list_all}
 use Rattle.std.specs.Char.{to_ascii_lowercase}
 use Rattle.std.specs.Str.{IsAscii, IsNotAscii}
+use Rattle.std.specs.Range.{range_steps_back}
+use Rattle.std.specs.Iterator.{AlwaysYields}
+use Rattle.std.specs.Iterator.Adapters.{rev_source, rev_steps}
+use Rattle.std.specs.declared.iter.Rev.{Rev}
+use Rattle.std.specs.declared.ops.Range.{Range}
 use Rattle.std.proofs.lemmas.Bool.Decides.{same_from_decides, nat_tests}
+use Rattle.std.proofs.lemmas.Iterator.{YieldsList}
+use Rattle.std.proofs.lemmas.List.{take_all}
 use Rattle.std.proofs.lemmas.Slice.Eq.{compares_Decides}
-use Rattle.std.proofs.lemmas.List.{reverse-reverse, reverse-append, length-reverse}
 use mathlib.Core.Bool.{and-false}
-use mathlib.Core.List.{map-id, map-append}
+use mathlib.Core.List.{map-id}
 use lib.Dec.{leb}
 use Rattle.rules.specs.Lists.{Text, same, any}
 use Rattle.rules.specs.Names.{fold, canonical}
@@ -22,44 +28,61 @@ same_Decides = compares_Decides same (search rules)
 pub told_same : (r : Bool) (a b : Text) → IsTrue r ↔ (a ≡ b) → r ≡ same a b
 told_same r a b h = same_from_decides r (same a b) h (same_Decides a b)
 
--- from the last byte back
-same_back : (a b : Text) → same (reverse a) (reverse b) ≡ same a b
-same_back a b =
-    let d = same_Decides (reverse a) (reverse b) in
-    told_same (same (reverse a) (reverse b)) a b
-    (λ e. sym (reverse-reverse a) ∙ ap reverse (d.0 e) ∙ reverse-reverse b, λ e. d.1 (ap reverse e))
+-- ---- the numbers below n, the highest first
 
-map-reverse : (f : ℕ → ℕ) (a : Text) → map f (reverse a) ≡ reverse (map f a)
-map-reverse f [] = refl
-map-reverse f (x ∷ a) =
-    ap (map f) (reverse-append (x ∷ []) a)
-    ∙ map-append f (reverse a) (x ∷ [])
-    ∙ ap (λ (t : Text). t ++ f x ∷ []) (map-reverse f a)
-    ∙ sym (reverse-append (f x ∷ []) (map f a))
+abbrev pub downward : ℕ → List ℕ
+downward zero = []
+downward (suc n) = n ∷ downward n
+
+abbrev steps_back : Rev (Range ℕ) → Option ℕ → Rev (Range ℕ) → Type 0
+steps_back = rev_steps (range_steps_back (λ a b. b - a) (λ a b. b ≡ a + 1))
+
+downward_yields : (n : ℕ) (s : Rev (Range ℕ)) → (rev_source s).start ≡ 0 → (rev_source s).end ≡ n → AlwaysYields steps_back (λ x. x) s (downward n)
+downward_yields zero s b e = λ x t k. absurd (omega (arith, k.1.0))
+downward_yields (suc n) s b e = (
+  λ t k. absurd (omega (arith, k.1.0)),
+  λ x t k. (omega (arith, k.1.1, k.1.2), downward_yields n t (k.0 ∙ b) (omega (arith, k.1.2))),
+)
+
+pub YieldsList-downward : (n : ℕ) {s : Rev (Range ℕ)} → rev_source s ≡ record { start = 0; end = n } → YieldsList steps_back (λ x. x) s (downward n)
+YieldsList-downward n {s} e = record { runs = downward_yields n s (ap (λ (r : Range ℕ). r.start) e) (ap (λ (r : Range ℕ). r.end) e) }
+
+swapped : (p q r : Bool) → (p && (q && r)) ≡ (q && (p && r))
+swapped true q r = refl
+swapped false true r = refl
+swapped false false r = refl
 
 -- ---- two texts, with the bytes of each taken as in a quoted name or as in an unquoted one
 
 module _ (q1 q2 : Bool) where
-  abbrev pub alike : ℕ × ℕ → Bool
-  alike p = eqb (compared_byte q1 p.0) (compared_byte q2 p.1)
+  abbrev alike : ℕ → ℕ → Bool
+  alike x y = eqb (compared_byte q1 x) (compared_byte q2 y)
 
-  agree_pairs : (a b : Text) → length a ≡ length b → list_all alike (zip a b) ≡ agreeing q1 q2 a b
-  agree_pairs [] [] e = refl
-  agree_pairs [] (y ∷ b) e = absurd (omega arith)
-  agree_pairs (x ∷ a) [] e = absurd (omega arith)
-  agree_pairs (x ∷ a) (y ∷ b) e = ap (λ (t : Bool). alike (x, y) && t) (agree_pairs a b (omega arith))
+  abbrev pub alike_at : Text → Text → ℕ → Bool
+  alike_at a b i = alike (get_or a i 0) (get_or b i 0)
 
-  pub agree_back : (a b : Text) → length a ≡ length b → list_all alike (zip (reverse a) (reverse b)) ≡ agreeing q1 q2 a b
-  agree_back a b e =
-      agree_pairs (reverse a) (reverse b) (grind (arith, length-reverse))
-      ∙ ap₂ same (map-reverse (compared_byte q1) a) (map-reverse (compared_byte q2) b)
-      ∙ same_back (map (compared_byte q1) a) (map (compared_byte q2) b)
+  -- the first bytes, and the last of them apart
+  agree_more : (a b : Text) (i : ℕ) → i < length a → i < length b
+      → agreeing q1 q2 (take (suc i) a) (take (suc i) b) ≡ (alike_at a b i && agreeing q1 q2 (take i a) (take i b))
+  agree_more [] b i ha hb = absurd (omega arith)
+  agree_more (x ∷ a) [] i ha hb = absurd (omega arith)
+  agree_more (x ∷ a) (y ∷ b) zero ha hb = refl
+  agree_more (x ∷ a) (y ∷ b) (suc i) ha hb = rw (agree_more a b i (omega arith) (omega arith)) (swapped (alike x y) (alike_at a b i) _)
+
+  agree_below : (a b : Text) (n : ℕ) → n ≤ length a → n ≤ length b → list_all (alike_at a b) (downward n) ≡ agreeing q1 q2 (take n a) (take n b)
+  agree_below a b zero ha hb = refl
+  agree_below a b (suc n) ha hb = ap (λ (t : Bool). alike_at a b n && t) (agree_below a b n (omega arith) (omega arith)) ∙ sym (agree_more a b n (omega arith) (omega arith))
+
+  pub agree_down : (a b : Text) → length a ≡ length b → list_all (alike_at a b) (downward (length a)) ≡ agreeing q1 q2 a b
+  agree_down a b e =
+      agree_below a b (length a) (omega arith) (omega arith)
+      ∙ ap₂ (agreeing q1 q2) (take_all (length a) a (omega arith)) (take_all (length a) b (omega arith))
 
   pub agree_longer : (a b : Text) → (length a ≡ length b → ⊥) → false ≡ agreeing q1 q2 a b
   agree_longer [] [] g = absurd (g refl)
   agree_longer [] (y ∷ b) g = refl
   agree_longer (x ∷ a) [] g = refl
-  agree_longer (x ∷ a) (y ∷ b) g = rw (← agree_longer a b (λ e. g (ap suc e))) (sym (and-false (alike (x, y))))
+  agree_longer (x ∷ a) (y ∷ b) g = rw (← agree_longer a b (λ e. g (ap suc e))) (sym (and-false (alike x y)))
 
 pub compared_is : (quoted : Bool) (s : Text) → map (compared_byte quoted) s ≡ canonical (named quoted s)
 unfolding canonical

@@ -20,10 +20,9 @@ fn agree(q1: bool, a: &[u8], q2: bool, b: &[u8]) -> bool
     ensures { result ≡ agreeing q1 q2 a.now b.now }
 {
     a.len() == b.len()
-        && a.iter()
+        && (0..a.len())
             .rev()
-            .zip(b.iter().rev())
-            .all(|(x, y)| compared_byte(q1, *x) == compared_byte(q2, *y))
+            .all(|i| compared_byte(q1, a[i]) == compared_byte(q2, b[i]))
 }
 
 // Byte for byte.
