@@ -1,12 +1,12 @@
 -- How long parts can be: no part of an image with counts of 2 bytes has more than 65,535 bytes, and so no sum of lengths wraps.
 -- Assumes nothing.
-use Rattle.std.specs.Prelude.{◌≡◌, List, [], ◌∷◌, ℕ, zero, suc, ◌<◌, length, get_or}
+use Rattle.std.specs.Prelude.{◌≡◌, List, [], ◌∷◌, ℕ, zero, suc, ◌-◌, ◌<◌, length, take, drop, get_or}
 use Rattle.std.proofs.Common.{sym, ap, subst, arith, Fits}
 use Rattle.std.specs.Int.{w8}
-use Rattle.bytes_wire.specs.Le.{Bytes}
+use Rattle.bytes_wire.specs.Le.{Bytes, take_bytes, drop_bytes}
 use Rattle.bytes_format.specs.Format.{Every}
 use Rattle.bytes_format.proofs.Formats.{pieces}
-use Rattle.bytes_bundle.specs.Bundle.{or_nil, parts_of, IsBundle}
+use Rattle.bytes_bundle.specs.Bundle.{or_nil, parts_of, IsBundle, Stepped}
 use Rattle.bytes_bundle.specs.Laws.{some_there}
 use Rattle.bytes_bundle.specs.Held.{Holds}
 use Rattle.image_value.specs.Parts.{column_schema}
@@ -48,3 +48,8 @@ table_name_short b h = let k = table_held h in omega (arith, ap length k.name, p
 
 pub column_name_short : {s : List ℕ} {v : ColumnSchema} → Bytes s → Holds (column_schema 2) s v → length v.name < 65536
 column_name_short b h = let k = column_held h in omega (arith, ap length k.name, part_short 1 b k.shape.bundle)
+
+-- a column of a list
+pub listed_name_short : {s : List ℕ} {i at e : ℕ} → Bytes s → Stepped 2 s i at e → {v : ColumnSchema} → Holds (column_schema 2) (take (e - at) (drop at s)) v
+    → length v.name < 65536
+listed_name_short {at = at} {e = e} b d h = column_name_short (take_bytes (e - at) (drop_bytes at b)) h

@@ -1,8 +1,9 @@
 -- A run of writes. `sets l i vs` (of `lib.Seq`) is l with vs written from index i on; runs one behind the other are one run.
 -- Assumes nothing.
-use Rattle.std.specs.Prelude.{◌≡◌, List, [], ◌∷◌, ◌++◌, ℕ, suc, ◌+◌, length, set}
-use Rattle.std.proofs.Common.{sym, ap, ap₂, ◌∙◌, add-zero, add-suc, suc-add, arith, length-append}
+use Rattle.std.specs.Prelude.{◌≡◌, List, [], ◌∷◌, ◌++◌, ℕ, zero, suc, ◌+◌, ◌-◌, ◌/◌, ◌%◌, ◌<◌, length, set, get_or, drop}
+use Rattle.std.proofs.Common.{sym, ap, ap₂, ◌∙◌, add-zero, add-suc, suc-add, add-one, arith, length-append, drop-cons}
 use Rattle.std.proofs.lemmas.List.Edits.{sets}
+use Rattle.bytes_wire.specs.Le.{le}
 
 pub sets_append : (l : List ℕ) (i : ℕ) (a b : List ℕ) → sets (sets l i a) (i + length a) b ≡ sets l i (a ++ b)
 sets_append l i [] b = ap (λ (k : ℕ). sets l k b) (add-zero i)
@@ -19,3 +20,12 @@ then {o} {x = x} {y = y} {i = i} p q = record {
   end = omega (arith, p.end, q.end, length-append x y);
   is = q.is ∙ ap₂ (λ (l : List ℕ) (n : ℕ). sets l n y) p.is p.end ∙ sets_append o i x y;
 }
+
+-- a number's next byte, written
+pub sets_le : (l : List ℕ) (to k n : ℕ) → 0 < k → sets (set l to (n % 256)) (to + 1) (le (k - 1) (n / 256)) ≡ sets l to (le k n)
+sets_le l to zero n h = absurd (omega arith)
+sets_le l to (suc k) n h = let e : suc k - 1 ≡ k = omega arith in rw (e, add-one)
+
+-- a list's next element, written
+pub sets_drop : (l : List ℕ) (at i : ℕ) (s : List ℕ) → i < length s → sets (set l (at + i) (get_or s i 0)) (at + (i + 1)) (drop (i + 1) s) ≡ sets l (at + i) (drop i s)
+sets_drop l at i s h = let e : at + (i + 1) ≡ suc (at + i) = omega arith in rw (e, add-one i, drop-cons s i 0 h)

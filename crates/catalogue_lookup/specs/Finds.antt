@@ -1,12 +1,13 @@
 -- What a lookup answers, by the answer of the rules.
 -- Assumes nothing.
-use Rattle.std.specs.Prelude.{◌≡◌, Bool, true, false, List, ◌∷◌, ℕ, suc, ◌+◌, ◌≤◌, length, drop, Option as Maybe, Some, None}
+use Rattle.std.specs.Prelude.{◌≡◌, Bool, true, false, List, ◌∷◌, ℕ, suc, ◌+◌, ◌-◌, ◌≤◌, length, take, drop, Option as Maybe, Some, None}
 use Rattle.std.specs.Borrow.{Bor}
-use Rattle.std.proofs.Common.{sym, ◌∙◌, add-one, arith, drop_of_length-le}
+use Rattle.std.proofs.Common.{sym, ◌∙◌, add-one, arith, drop_of_length-le, drop-drop, take-take}
 use Rattle.std.proofs.Math.Path.{ap}
 use Rattle.std.proofs.Math.Option.{Option, none, some}
 use Rattle.bytes_format.proofs.Formats.{list_of}
 use Rattle.bytes_bundle.specs.Bundle.{parts_of}
+use Rattle.bytes_bundle.specs.Laws.{drop_take}
 use Rattle.bytes_bundle.specs.Held.{Holds, Left, left, list_count}
 use Rattle.bytes_bundle.specs.Numbered.{IsPart, valued}
 use Rattle.image_value.specs.Parts.{column_schema}
@@ -135,3 +136,11 @@ unfolding bound_columns_from
 bound_end {s} {name} {i} w l cs h t =
     let z : length cs ≤ i = omega (arith, list_count (column_schema 2) s h) in
     (w.left t).is cs h ∙ ap (bound_from name t i) (drop_of_length-le cs {i = i} z)
+
+-- ---- a part of a part
+
+pub part_part : (s : List ℕ) (a m b k : ℕ) → b + k ≤ m → take k (drop b (take m (drop a s))) ≡ take k (drop (a + b) s)
+part_part s a m b k h =
+    let e : m ≡ b + (m - b) = omega arith in
+    ap (λ (n : ℕ). take k (drop b (take n (drop a s)))) e ∙ ap (take k) (drop_take b (m - b) (drop a s))
+    ∙ take-take k (m - b) (drop b (drop a s)) (omega arith) ∙ ap (take k) (drop-drop b a s)

@@ -1,6 +1,6 @@
 -- An outcome as a caller hears it: a number, a length, and the output as it is then.
 -- Assumes nothing.
-use Rattle.std.specs.Prelude.{◌≡◌, refl, Result, Ok, Err, List, [], ◌∷◌, ◌++◌, ℕ, suc, ◌≤◌, length, set, drop}
+use Rattle.std.specs.Prelude.{◌≡◌, refl, Result, Ok, Err, List, [], ◌∷◌, ◌++◌, ℕ, suc, ◌-◌, ◌≤◌, length, get_or, set, drop}
 use Rattle.std.specs.Result.{result_unwrap_or}
 use Rattle.std.proofs.Common.{sym, ap, ◌∙◌, arith}
 use Rattle.std.proofs.lemmas.List.Edits.{sets}
@@ -53,6 +53,43 @@ never_zero NoRow e = omega arith
 never_zero Fault e = omega arith
 never_zero NoUpdate e = omega arith
 
+-- the refusal of a number
+refused_of : ℕ → Refused
+refused_of n =
+    get_or
+    (SchemaMismatch
+    ∷ ConstraintViolation
+    ∷ UnsupportedSql
+    ∷ InvalidArgument
+    ∷ NoStatement
+    ∷ NoCatalogue
+    ∷ PastALimit
+    ∷ NameBeyondAscii
+    ∷ NoRoom
+    ∷ NoRow
+    ∷ Fault
+    ∷ [])
+    (n - 1) NoUpdate
+
+refused_back : (r : Refused) → refused_of (number_of r) ≡ r
+unfolding refused_of
+refused_back SchemaMismatch = refl
+refused_back ConstraintViolation = refl
+refused_back UnsupportedSql = refl
+refused_back InvalidArgument = refl
+refused_back NoStatement = refl
+refused_back NoCatalogue = refl
+refused_back PastALimit = refl
+refused_back NameBeyondAscii = refl
+refused_back NoRoom = refl
+refused_back NoRow = refl
+refused_back Fault = refl
+refused_back NoUpdate = refl
+
+-- a number is one refusal's alone
+pub number_once : (r q : Refused) → number_of r ≡ number_of q → r ≡ q
+number_once r q e = sym (refused_back r) ∙ ap refused_of e ∙ refused_back q
+
 -- 0 where nothing is refused
 abbrev pub told_number : {A : Type 0} → Result A Refused → ℕ
 told_number (Ok a) = 0
@@ -69,6 +106,13 @@ reply k n = record { refusal = k; length = n }
 -- the code's answer as numbers
 abbrev pub told : Result ℕ Refused → Reply
 told r = reply (told_number r) (result_unwrap_or r 0)
+
+-- what a caller hears is one answer's alone
+pub told_once : (r q : Result ℕ Refused) → told r ≡ told q → r ≡ q
+told_once (Ok a) (Ok b) e = ap Ok (ap (λ (x : Reply). x.length) e)
+told_once (Ok a) (Err q) e = absurd (never_zero q (sym (ap (λ (x : Reply). x.refusal) e)))
+told_once (Err r) (Ok b) e = absurd (never_zero r (ap (λ (x : Reply). x.refusal) e))
+told_once (Err r) (Err q) e = ap Err (number_once r q (ap (λ (x : Reply). x.refusal) e))
 
 -- ---- "A refusal answers its number with length 0, and the output holds the bytes it held before. Success answers the length written; bytes past
 -- it stay."

@@ -1,11 +1,15 @@
 -- What a value that was worked out stands for, and what is heard of one that may be a fault.
 -- Assumes nothing.
-use Rattle.std.specs.Prelude.{◌≡◌, refl, ℕ, length, Option as Maybe, Some, None}
-use Rattle.std.proofs.Math.Option.{Option, none, some}
+use Rattle.std.specs.Prelude.{◌≡◌, refl, Bool, true, false, cond, List, [], ◌∷◌, ℕ, zero, suc, ◌<◌, ltb, length, get_or, Option as Maybe, Some, None}
+use Rattle.std.proofs.Common.{arith, ltb-true}
+use Rattle.std.proofs.Math.Option.{Option, none, some, none-ne-some}
 use Rattle.bytes_format.specs.Ways.{next}
+use Rattle.image_expression.specs.Place.{node_count, node_at}
 use Rattle.rules.specs.declared.Ordinal.{Ordinal}
 use Rattle.rules.specs.Bound.{Value}
-use Rattle.rules.specs.Evaluate.{Worked, worked, fault, no_rule, then, unary_value, binary_value}
+use Rattle.rules.specs.Lists.{Text}
+use Rattle.rules.specs.Rows.{Row}
+use Rattle.rules.specs.Evaluate.{Worked, worked, fault, no_rule, then, at, as_text, unary_value, binary_value}
 use Rattle.rules.specs.Statements.{Unary, Binary}
 use Rattle.run_values.specs.declared.Worth.{Worth}
 use Rattle.run_values.specs.declared.Worth.TheVariants as worth
@@ -55,3 +59,28 @@ pub told_then : {A B : Type 0} (w : Worked A) (f : A → Worked B) → told (the
 told_then (worked a) f = refl
 told_then fault f = refl
 told_then no_rule f = refl
+
+-- ---- a text's place
+
+as_text_lem : (v : Value) {t : Text} → as_text v ≡ some t → v ≡ Value.text t
+as_text_lem (Value.int z) h = absurd (none-ne-some _ h)
+as_text_lem (Value.text s) h = cc
+as_text_lem (Value.bool b) h = absurd (none-ne-some _ h)
+as_text_lem Value.null h = absurd (none-ne-some _ h)
+
+within : (x : Row) (n : ℕ) {t : Text} → get_or x n Value.null ≡ Value.text t → n < length x
+within [] zero h = absurd (let z : ◌≡◌ {A = ℕ} 0 1 = cc in omega arith)
+within [] (suc n) h = absurd (let z : ◌≡◌ {A = ℕ} 0 1 = cc in omega arith)
+within (v ∷ x) zero h = omega arith
+within (v ∷ x) (suc n) h = let k = within x n h in omega arith
+
+pub row_text : (x : Row) (n : ℕ) {t : Text} → as_text (at x (ordinal n)) ≡ some t → (n < length x) × (at x (ordinal n) ≡ Value.text t)
+row_text x n h = let k = as_text_lem (get_or x n Value.null) h in (within x n k, k)
+
+pub node_text : (e : List ℕ) (n : ℕ) {t : Text} → cond (ltb n (node_count e)) (some (node_at e n).text) none ≡ some t
+    → (n < node_count e) × ((node_at e n).text ≡ t)
+node_text e n {t} h = go (ltb n (node_count e)) refl h
+  where
+    go : (b : Bool) → ltb n (node_count e) ≡ b → cond b (some (node_at e n).text) none ≡ some t → (n < node_count e) × ((node_at e n).text ≡ t)
+    go true p k = (ltb-true n (node_count e) p, cc)
+    go false p k = absurd (none-ne-some _ k)

@@ -1,11 +1,12 @@
--- Widths of white space, and white space that is taken off.
+-- Widths of white space, white space that is taken off, and one final `;`.
 -- Assumes nothing.
-use Rattle.std.proofs.Common.{◌≡◌, refl, ℕ, zero, suc, ◌≤◌, ◌<◌, Bool, true, false, cond, eqb, length, get_or, length-drop, length-take, inl, inr, ◌⊎◌, arith}
+use Rattle.std.proofs.Common.{◌≡◌, refl, ℕ, zero, suc, ◌-◌, ◌≤◌, ◌<◌, Bool, true, false, cond, eqb, length, get_or, take, length-drop, length-take, inl, inr, ◌⊎◌, arith}
 use Rattle.std.proofs.Math.Nat.{le_refl}
 use Rattle.std.proofs.lemmas.Bool.Decides.{nat_tests}
-use borrow.Author.Tests.{eq-eqb, ne_eqb}
+use mathlib.Core.Bool.{and-false}
+use borrow.Author.Tests.{lt-ltb, eq-eqb, ne_eqb}
 use Rattle.rules.specs.Lists.{Text}
-use Rattle.rules.specs.Trimmed.{within, white1, white2, white3, width, front_width, back_width, cut_front, cut_back, off, last_but}
+use Rattle.rules.specs.Trimmed.{within, white1, white2, white3, width, front_width, back_width, cut_front, cut_back, off, last_but, without_semicolon}
 use Rattle.text_trim.specs.Plain.{Plain}
 
 -- ---- there are as many bytes as the width says, and at either end a cut takes one at least
@@ -89,3 +90,19 @@ module _ (width : Text → ℕ) (cut : Text → Text) where
 pub ruleset front_laws = (left_all, left_cut, front_shorter)
 
 pub ruleset back_laws = (left_all, left_cut, back_shorter)
+
+-- ---- one final `;`
+
+pub nothing_dropped : (s : Text) → length s ≡ 0 → s ≡ without_semicolon s
+unfolding without_semicolon
+nothing_dropped s e = rw e refl
+
+pub semicolon_dropped : (s : Text) → (length s ≡ 0 → ⊥) → last_but 1 s ≡ 0x3B → take (length s - 1) s ≡ without_semicolon s
+unfolding without_semicolon
+semicolon_dropped s f e =
+    let some : 0 < length s = omega arith in
+    simp (lt-ltb 0 (length s) some, eq-eqb (last_but 1 s) 0x3B e)
+
+pub other_kept : (s : Text) → (last_but 1 s ≡ 0x3B → ⊥) → s ≡ without_semicolon s
+unfolding without_semicolon
+other_kept s f = simp (ne_eqb (last_but 1 s) 0x3B f, and-false)
