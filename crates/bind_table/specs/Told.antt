@@ -1,4 +1,4 @@
--- What the analysis of a statement answers, in the declared types of this crate.
+-- What the analysis of a statement answers, as the code's Results.
 -- Assumes nothing: these are definitions.
 use Rattle.std.specs.Prelude.{◌≡◌, List, ℕ, length, Result, Ok, Err}
 use Rattle.std.specs.Borrow.{Bor}

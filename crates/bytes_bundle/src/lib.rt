@@ -1,5 +1,5 @@
 // The one reader of the one container: how many parts, the length of each, the parts (docs/IMAGES.md, "A bundle"). Counts have w bytes.
-// A loop over a list carries the number of a part and the byte where it begins, and lends `&s[at..end]` to a function that judges one part.
+// A list is gone over by `iter`, which lends each part. The search of bind_repeats alone carries the number of a part and the byte where it begins.
 #![tactic(auto)]
 
 ghost use Rattle.std.specs.Prelude.{◌≡◌, [], ◌≤◌, ◌<◌, length, get_or};
